@@ -7,3 +7,4 @@ pub mod Corrected
 pub mod Pulled
 pub mod Replied
 pub mod Short
+pub mod Fits

@@ -2,8 +2,8 @@
 
 ghost use Rattle.std.specs.Prelude.{◌≡◌, ◌≢◌, ◌-◌, ◌<◌, Some, None, Err, slice_get, option_map, string_bytes, IfOk};
 ghost use Rattle.std.specs.Prelude.{IfErr};
-ghost use Rattle.tb_commands.specs.Prelude.{AnyRefusal, AnyState, Batch, FindsBatch, IsNoDevice, IsRead, IsReadWhere};
-ghost use Rattle.tb_commands.specs.Prelude.{Sentence, state, state_number, Tells};
+ghost use Rattle.tb_commands.specs.Prelude.{AnyState, Batch, FindsBatch, IsRead, IsReadWhere, Sentence, state_number};
+ghost use Rattle.tb_commands.specs.Prelude.{Tells};
 ghost use Rattle.tb_commands.specs.ReadOf.{IsSentenceRead};
 
 use sqlite::{Alter, Connection};
@@ -25,10 +25,7 @@ pub struct BatchRead {
 fn read_batch(row: BatchRow, number: u32) -> Result<BatchRead, Fault>
     ensures batch { IfOk result (λ f. (st : AnyState) → row.state ≡ state_number st → (f.number ≡ number)
         × (f.state ≡ st) × (f.worker ≡ row.worker)) }
-    ensures never_refuses { (r : AnyRefusal) → result ≢ Err (Fault.Refused r) }
-    ensures output { result ≢ Err Fault.Output }
     ensures fails { (st : AnyState) → row.state ≡ state_number st → result ≢ Err Fault.NotADesk }
-    ensures cause { IfErr result IsNoDevice }
     ensures fault { IfErr result (λ e. e ≡ Fault.NotADesk) }
 {
     let Some(state) = state_numbered(row.state) else {

@@ -1,8 +1,7 @@
 //! The part of a batch that its events move: its sentences that are not pulled.
 
 ghost use Rattle.std.specs.Prelude.{◌≡◌, ◌≢◌, ◌<◌, ◌≤◌, ◌+◌, ◌^◌, length, Err, sum_by, IfOk, IfErr};
-ghost use Rattle.tb_commands.specs.Prelude.{AnyRefusal, at_work, IsAscending, IsNoDevice, IsRead, one, Tells, weigh};
-ghost use Rattle.tb_commands.specs.Prelude.{words};
+ghost use Rattle.tb_commands.specs.Prelude.{at_work, IsAscending, IsRead, one, Tells, weigh, words};
 ghost use Rattle.tb_commands.specs.Working.{unless_pulled, each_one, its_words};
 
 use sqlite::{Alter, Connection};
@@ -22,11 +21,8 @@ pub(crate) struct Sums {
 fn with_one(sums: Sums, item: &BatchSentence) -> Result<Sums, Fault>
     ensures value { IfOk result (λ r. (r.sentences ≡ sums.sentences + 1)
         × (r.words ≡ sums.words + item.now.words)) }
-    ensures never_refuses { (r : AnyRefusal) → result ≢ Err (Fault.Refused r) }
-    ensures output { result ≢ Err Fault.Output }
     ensures fails { sums.sentences + 1 < 2 ^ 32 → sums.words + item.now.words < 2 ^ 32
         → result ≢ Err Fault.NotADesk }
-    ensures cause { IfErr result IsNoDevice }
     ensures fault { IfErr result (λ e. e ≡ Fault.NotADesk) }
 {
     let (Some(sentences), Some(words)) = (
@@ -45,11 +41,8 @@ fn with_work(sums: Sums, item: &BatchSentence, pulled: &[u32]) -> Result<Sums, F
         × (r.words ≡ sums.words + unless_pulled pulled.now its_words item.now)) }
     ensures bound { IfOk result (λ r. (r.sentences ≤ sums.sentences + 1)
         × (r.words ≤ sums.words + item.now.words)) }
-    ensures never_refuses { (r : AnyRefusal) → result ≢ Err (Fault.Refused r) }
-    ensures output { result ≢ Err Fault.Output }
     ensures fails { sums.sentences + 1 < 2 ^ 32 → sums.words + item.now.words < 2 ^ 32
         → result ≢ Err Fault.NotADesk }
-    ensures cause { IfErr result IsNoDevice }
     ensures fault { IfErr result (λ e. e ≡ Fault.NotADesk) }
 {
     if is_among(item.number, pulled) {
@@ -63,10 +56,7 @@ fn sums_of(work: &[BatchSentence], pulled: &[u32]) -> Result<Sums, Fault>
     ensures value { IfOk result (λ r. IsAscending (λ a b. a < b) pulled.now
         → (r.sentences ≡ sum_by (unless_pulled pulled.now each_one) work.now)
         × (r.words ≡ sum_by (unless_pulled pulled.now its_words) work.now)) }
-    ensures never_refuses { (r : AnyRefusal) → result ≢ Err (Fault.Refused r) }
-    ensures output { result ≢ Err Fault.Output }
     ensures fails { length work.now < 2 ^ 32 → sum_by its_words work.now < 2 ^ 32 → result ≢ Err Fault.NotADesk }
-    ensures cause { IfErr result IsNoDevice }
     ensures fault { IfErr result (λ e. e ≡ Fault.NotADesk) }
 {
     let mut sums = Sums {

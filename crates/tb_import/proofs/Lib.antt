@@ -1,4 +1,5 @@
 pub mod Left
+pub mod Looks
 pub mod Takes
 pub mod Follows
 pub mod Ordered

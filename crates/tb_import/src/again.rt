@@ -1,10 +1,9 @@
 //! Counts the words of first revisions.
 
-ghost use Rattle.std.specs.Prelude.{◌≡◌, ◌≢◌, ◌<◌, ◌^◌, List, sum_by, None, Ok, Err, IfOk, OnOk};
-ghost use Rattle.tb_import.specs.Prelude.{AllByRecursion, AnyRefusal, BlockText, FailsOnlyAs, HasCleanDisk, IsDeskOf};
-ghost use Rattle.tb_import.specs.Prelude.{IsFaultless, IsNoDevice, Machine, state, words_of};
-ghost use Rattle.tb_import.specs.Leaving.{IsLeft, Stays};
+ghost use Rattle.std.specs.Prelude.{◌≡◌, ◌≢◌, ◌<◌, ◌^◌, List, sum_by, Ok, Err, IfOk};
+ghost use Rattle.tb_import.specs.Prelude.{AllByRecursion, BlockText, HasCleanDisk, IsDeskOf, Machine, state, words_of};
 ghost use Rattle.tb_import.specs.Firsts.{IsFirst, IsWorkOf, IsAtFirst, AreFirsts};
+ghost use Rattle.tb_import.specs.Leaving.{IsLook};
 
 use crate::firsts::read_first;
 use crate::words::{more_words, words_of_text};
@@ -18,14 +17,7 @@ use tb_reads::BatchSentence;
 fn read_words<S: Alter>(alloc: Global, conn: &mut Connection<S>, number: u32) -> Result<u64, Fault>
     ensures answered { HasCleanDisk (state S.Store conn.new) → IfOk result (λ n. (s : Machine) (b : BlockText)
         → IsDeskOf S.Store conn.old s → IsFirst s number b → n ≡ words_of b) }
-    ensures never_refuses { (r : AnyRefusal) → result ≢ Err (Fault.Refused r) }
-    ensures output { result ≢ Err Fault.Output }
-    ensures fails { HasCleanDisk (state S.Store conn.new) → (state S.Store conn.old).step_limit ≡ None
-        → (s : Machine) (b : BlockText) → IsDeskOf S.Store conn.old s → IsFirst s number b
-        → result ≢ Err Fault.NotADesk }
-    ensures cause { IsFaultless S.Store conn.old conn.new → FailsOnlyAs IsNoDevice S.Store conn.old conn.new result }
-    ensures stays { OnOk result (Stays S.Store conn.old conn.new) }
-    ensures left { IsLeft S.Store conn.old conn.new }
+    ensures look { IsLook S.Store conn.old conn.new result (λ s so. (b : BlockText) → IsFirst s number b → so) }
 {
     revisions_read_back();
     one_list_has_a_text();
@@ -43,14 +35,7 @@ fn first_words<S: Alter>(
 ) -> Result<u64, Fault>
     ensures answered { HasCleanDisk (state S.Store conn.new) → IfOk result (λ n. (s : Machine) (b : BlockText)
         → IsDeskOf S.Store conn.old s → IsWorkOf s one.now b → n ≡ words_of b) }
-    ensures never_refuses { (r : AnyRefusal) → result ≢ Err (Fault.Refused r) }
-    ensures output { result ≢ Err Fault.Output }
-    ensures fails { HasCleanDisk (state S.Store conn.new) → (state S.Store conn.old).step_limit ≡ None
-        → (s : Machine) (b : BlockText) → IsDeskOf S.Store conn.old s → IsWorkOf s one.now b
-        → result ≢ Err Fault.NotADesk }
-    ensures cause { IsFaultless S.Store conn.old conn.new → FailsOnlyAs IsNoDevice S.Store conn.old conn.new result }
-    ensures stays { OnOk result (Stays S.Store conn.old conn.new) }
-    ensures left { IsLeft S.Store conn.old conn.new }
+    ensures look { IsLook S.Store conn.old conn.new result (λ s so. (b : BlockText) → IsWorkOf s one.now b → so) }
     ensures current { IsAtFirst one.now → result ≡ Ok one.now.words }
 {
     if one.rev == 1 {
@@ -67,14 +52,8 @@ pub(crate) fn words_again<S: Alter>(
 ) -> Result<u64, Fault>
     ensures answered { HasCleanDisk (state S.Store conn.new) → IfOk result (λ n. (s : Machine) (bs : List BlockText)
         → IsDeskOf S.Store conn.old s → AreFirsts s work.now bs → n ≡ sum_by words_of bs) }
-    ensures never_refuses { (r : AnyRefusal) → result ≢ Err (Fault.Refused r) }
-    ensures output { result ≢ Err Fault.Output }
-    ensures fails { HasCleanDisk (state S.Store conn.new) → (state S.Store conn.old).step_limit ≡ None
-        → (s : Machine) (bs : List BlockText) → IsDeskOf S.Store conn.old s → AreFirsts s work.now bs
-        → sum_by words_of bs < 2 ^ 64 → result ≢ Err Fault.NotADesk }
-    ensures cause { IsFaultless S.Store conn.old conn.new → FailsOnlyAs IsNoDevice S.Store conn.old conn.new result }
-    ensures stays { OnOk result (Stays S.Store conn.old conn.new) }
-    ensures left { IsLeft S.Store conn.old conn.new }
+    ensures look { IsLook S.Store conn.old conn.new result (λ s so. (bs : List BlockText)
+        → AreFirsts s work.now bs → sum_by words_of bs < 2 ^ 64 → so) }
     ensures current { AllByRecursion IsAtFirst work.now → result ≢ Err Fault.Memory }
 {
     let mut total = 0u64;

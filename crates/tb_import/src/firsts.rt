@@ -1,10 +1,9 @@
 //! Compares a text with the first revisions of sentences.
 
-ghost use Rattle.std.specs.Prelude.{◌≡◌, ◌≢◌, ◌++◌, ◌∷◌, [], ℕ, List, None, Err, IfOk, OnOk, MatchOption, string_bytes};
-ghost use Rattle.tb_import.specs.Prelude.{AnyRefusal, BlockText, FailsOnlyAs, HasCleanDisk, IsDeskOf, IsFaultless};
-ghost use Rattle.tb_import.specs.Prelude.{IsNoDevice, Machine, state, text_of};
-ghost use Rattle.tb_import.specs.Leaving.{IsLeft, Stays};
+ghost use Rattle.std.specs.Prelude.{◌≡◌, ◌≢◌, ◌++◌, ◌∷◌, [], ℕ, List, IfOk, MatchOption, string_bytes};
+ghost use Rattle.tb_import.specs.Prelude.{BlockText, HasCleanDisk, IsDeskOf, Machine, state, text_of};
 ghost use Rattle.tb_import.specs.Firsts.{IsFirst, AreFirsts, DecidesSame};
+ghost use Rattle.tb_import.specs.Leaving.{IsLook};
 
 use sqlite::{Alter, Connection};
 use tb_core::Fault;
@@ -19,14 +18,7 @@ pub(crate) fn read_first<S: Alter>(
 ) -> Result<RevisionRow, Fault>
     ensures answered { HasCleanDisk (state S.Store conn.new) → IfOk result (λ row. (s : Machine) (b : BlockText)
         → IsDeskOf S.Store conn.old s → IsFirst s number b → string_bytes row.body ≡ text_of (b ∷ [])) }
-    ensures never_refuses { (r : AnyRefusal) → result ≢ Err (Fault.Refused r) }
-    ensures output { result ≢ Err Fault.Output }
-    ensures fails { HasCleanDisk (state S.Store conn.new) → (state S.Store conn.old).step_limit ≡ None
-        → (s : Machine) (b : BlockText) → IsDeskOf S.Store conn.old s → IsFirst s number b
-        → result ≢ Err Fault.NotADesk }
-    ensures cause { IsFaultless S.Store conn.old conn.new → FailsOnlyAs IsNoDevice S.Store conn.old conn.new result }
-    ensures stays { OnOk result (Stays S.Store conn.old conn.new) }
-    ensures left { IsLeft S.Store conn.old conn.new }
+    ensures look { IsLook S.Store conn.old conn.new result (λ s so. (b : BlockText) → IsFirst s number b → so) }
 {
     records_determine_the_state();
     desk_rows_are_readable();
@@ -44,14 +36,7 @@ fn after_first<'a, S: Alter>(
         → IsDeskOf S.Store conn.old s → IsFirst s number b
         → MatchOption found ((more : List ℕ) → text.now ≢ text_of (b ∷ []) ++ more) (λ more.
         text.now ≡ text_of (b ∷ []) ++ more.now)) }
-    ensures never_refuses { (r : AnyRefusal) → result ≢ Err (Fault.Refused r) }
-    ensures output { result ≢ Err Fault.Output }
-    ensures fails { HasCleanDisk (state S.Store conn.new) → (state S.Store conn.old).step_limit ≡ None
-        → (s : Machine) (b : BlockText) → IsDeskOf S.Store conn.old s → IsFirst s number b
-        → result ≢ Err Fault.NotADesk }
-    ensures cause { IsFaultless S.Store conn.old conn.new → FailsOnlyAs IsNoDevice S.Store conn.old conn.new result }
-    ensures stays { OnOk result (Stays S.Store conn.old conn.new) }
-    ensures left { IsLeft S.Store conn.old conn.new }
+    ensures look { IsLook S.Store conn.old conn.new result (λ s so. (b : BlockText) → IsFirst s number b → so) }
 {
     let row = read_first(conn, number)?;
     Ok(text.strip_prefix(row.body.as_bytes()))
@@ -68,14 +53,8 @@ pub(crate) fn are_firsts<S: Alter>(
     ensures answered { HasCleanDisk (state S.Store conn.new)
         → IfOk result (λ same. (s : Machine) (bs : List BlockText) → IsDeskOf S.Store conn.old s
         → AreFirsts s work.now bs → DecidesSame same text.now bs) }
-    ensures never_refuses { (r : AnyRefusal) → result ≢ Err (Fault.Refused r) }
-    ensures output { result ≢ Err Fault.Output }
-    ensures fails { HasCleanDisk (state S.Store conn.new) → (state S.Store conn.old).step_limit ≡ None
-        → (s : Machine) (bs : List BlockText) → IsDeskOf S.Store conn.old s → AreFirsts s work.now bs
-        → result ≢ Err Fault.NotADesk }
-    ensures cause { IsFaultless S.Store conn.old conn.new → FailsOnlyAs IsNoDevice S.Store conn.old conn.new result }
-    ensures stays { OnOk result (Stays S.Store conn.old conn.new) }
-    ensures left { IsLeft S.Store conn.old conn.new }
+    ensures look { IsLook S.Store conn.old conn.new result (λ s so. (bs : List BlockText)
+        → AreFirsts s work.now bs → so) }
 {
     let mut rest = text;
     for one in work {

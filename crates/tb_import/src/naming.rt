@@ -1,13 +1,11 @@
 //! Whether a batch has the name of an import, and whether the import made it.
 
-ghost use Rattle.std.specs.Prelude.{◌≡◌, ◌≢◌, ◌<◌, ◌≤◌, ◌+◌, ℕ, List, map, length, sum_by, None, Err, IfOk, OnOk};
-ghost use Rattle.std.specs.Prelude.{IfErr};
-ghost use Rattle.tb_import.specs.Prelude.{AllByRecursion, AnyRefusal, Batch, FailsOnlyAs, FindsName, first_bodies};
-ghost use Rattle.tb_import.specs.Prelude.{HasBatch, HasCleanDisk, import_reply, imported, IsDeskOf, IsFaultless};
-ghost use Rattle.tb_import.specs.Prelude.{IsNoDevice, KnowsDesk, KnowsDeskWhere, Machine, Reached, sentence_record};
-ghost use Rattle.tb_import.specs.Prelude.{state, Tells, words_of, work_of};
+ghost use Rattle.std.specs.Prelude.{◌≡◌, ◌≢◌, ◌<◌, ◌≤◌, ◌+◌, ℕ, List, map, length, sum_by, Err, IfOk, IfErr};
+ghost use Rattle.tb_import.specs.Prelude.{AllByRecursion, AnyRefusal, Batch, FindsName, first_bodies, HasBatch};
+ghost use Rattle.tb_import.specs.Prelude.{HasCleanDisk, import_reply, imported, IsDeskOf, IsNoDevice, Machine, Reached};
+ghost use Rattle.tb_import.specs.Prelude.{sentence_record, state, Tells, words_of, work_of};
 ghost use Rattle.tb_import.specs.Firsts.{IsAtFirst};
-ghost use Rattle.tb_import.specs.Leaving.{IsLeft, Stays};
+ghost use Rattle.tb_import.specs.Leaving.{IsLook};
 
 use crate::again::words_again;
 use crate::firsts::are_firsts;
@@ -52,13 +50,8 @@ fn repeat<S: Alter>(
 ) -> Result<Imported, Fault>
     ensures answered { Tells S.Store conn.old conn.new result (λ s r.
         work.now ≡ work_of number 1 (map sentence_record s.sentences) → imported r ≡ import_reply s number) }
-    ensures never_refuses { (r : AnyRefusal) → result ≢ Err (Fault.Refused r) }
-    ensures output { result ≢ Err Fault.Output }
-    ensures fails { KnowsDeskWhere S.Store conn.old conn.new result (λ s so. 0 < number → number ≤ length s.batches
+    ensures look { IsLook S.Store conn.old conn.new result (λ s so. 0 < number → number ≤ length s.batches
         → work.now ≡ work_of number 1 (map sentence_record s.sentences) → so) }
-    ensures cause { IsFaultless S.Store conn.old conn.new → FailsOnlyAs IsNoDevice S.Store conn.old conn.new result }
-    ensures stays { OnOk result (Stays S.Store conn.old conn.new) }
-    ensures left { IsLeft S.Store conn.old conn.new }
     ensures current { AllByRecursion IsAtFirst work.now → result ≢ Err Fault.Memory }
 {
     let words = words_again(alloc, conn, work)?;
@@ -76,14 +69,8 @@ fn compare<S: Alter>(
         → IfOk result (λ found. (s : Machine) (name : List ℕ) (place : ℕ) (b : Batch)
         → IsDeskOf S.Store conn.old s → HasBatch s name place b → number ≡ place + 1
         → FindsName s name body.now found) }
-    ensures never_refuses { (r : AnyRefusal) → result ≢ Err (Fault.Refused r) }
-    ensures output { result ≢ Err Fault.Output }
-    ensures fails { HasCleanDisk (state S.Store conn.new) → (state S.Store conn.old).step_limit ≡ None
-        → (s : Machine) (name : List ℕ) (place : ℕ) (b : Batch) → IsDeskOf S.Store conn.old s
-        → HasBatch s name place b → number ≡ place + 1 → result ≢ Err Fault.NotADesk }
-    ensures cause { IsFaultless S.Store conn.old conn.new → FailsOnlyAs IsNoDevice S.Store conn.old conn.new result }
-    ensures stays { OnOk result (Stays S.Store conn.old conn.new) }
-    ensures left { IsLeft S.Store conn.old conn.new }
+    ensures look { IsLook S.Store conn.old conn.new result (λ s so. (name : List ℕ) (place : ℕ) (b : Batch)
+        → HasBatch s name place b → number ≡ place + 1 → so) }
 {
     let work = read_work(alloc, conn, number)?;
     if !are_firsts(conn, work.as_slice(), body)? {
@@ -101,12 +88,7 @@ pub(crate) fn find_name<S: Alter>(
     body: &[u8],
 ) -> Result<NameFound, Fault>
     ensures answered { Tells S.Store conn.old conn.new result (λ s found. FindsName s name.now body.now found) }
-    ensures never_refuses { (r : AnyRefusal) → result ≢ Err (Fault.Refused r) }
-    ensures output { result ≢ Err Fault.Output }
-    ensures fails { KnowsDesk S.Store conn.old conn.new result }
-    ensures cause { IsFaultless S.Store conn.old conn.new → FailsOnlyAs IsNoDevice S.Store conn.old conn.new result }
-    ensures stays { OnOk result (Stays S.Store conn.old conn.new) }
-    ensures left { IsLeft S.Store conn.old conn.new }
+    ensures look { IsLook S.Store conn.old conn.new result (λ s so. so) }
 {
     let Some(number) = batch_number(conn, name)? else {
         return Ok(NameFound::Free);

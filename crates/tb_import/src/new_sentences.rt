@@ -1,10 +1,9 @@
 //! Finds the sentence of a file whose `sent_id` the desk already has.
 
-ghost use Rattle.std.specs.Prelude.{◌≡◌, ◌≢◌, List, map, None, Ok, Err, IfOk, OnOk};
-ghost use Rattle.tb_import.specs.Prelude.{AnyRefusal, BlockText, FailsOnlyAs, FindsId, HasCleanDisk, IsDeskOf};
-ghost use Rattle.tb_import.specs.Prelude.{IsFaultless, IsNoDevice, KnowsDesk, Machine, state, taken_of};
-ghost use Rattle.tb_import.specs.Leaving.{IsLeft, Stays};
+ghost use Rattle.std.specs.Prelude.{◌≡◌, List, map, None, Ok, IfOk};
+ghost use Rattle.tb_import.specs.Prelude.{BlockText, FindsId, HasCleanDisk, IsDeskOf, Machine, state, taken_of};
 ghost use Rattle.tb_import.specs.Planned.{IsKnown};
+ghost use Rattle.tb_import.specs.Leaving.{IsLook};
 
 use crate::counters::ImportCounters;
 use sqlite::{Alter, Connection};
@@ -19,12 +18,7 @@ fn first_taken<S: Alter>(
     ensures answered { HasCleanDisk (state S.Store conn.new)
         → IfOk result (λ found. (s : Machine) (bs : List BlockText) → IsDeskOf S.Store conn.old s
         → taken.now ≡ map taken_of bs → FindsId s bs found) }
-    ensures never_refuses { (r : AnyRefusal) → result ≢ Err (Fault.Refused r) }
-    ensures output { result ≢ Err Fault.Output }
-    ensures fails { KnowsDesk S.Store conn.old conn.new result }
-    ensures cause { IsFaultless S.Store conn.old conn.new → FailsOnlyAs IsNoDevice S.Store conn.old conn.new result }
-    ensures stays { OnOk result (Stays S.Store conn.old conn.new) }
-    ensures left { IsLeft S.Store conn.old conn.new }
+    ensures look { IsLook S.Store conn.old conn.new result (λ s so. so) }
 {
     let mut number = 0;
     for one in taken {
@@ -46,12 +40,7 @@ pub(crate) fn first_standing<S: Alter>(
     ensures answered { HasCleanDisk (state S.Store conn.new)
         → IfOk result (λ found. (s : Machine) (bs : List BlockText) → IsDeskOf S.Store conn.old s
         → IsKnown known.now s → taken.now ≡ map taken_of bs → FindsId s bs found) }
-    ensures never_refuses { (r : AnyRefusal) → result ≢ Err (Fault.Refused r) }
-    ensures output { result ≢ Err Fault.Output }
-    ensures fails { KnowsDesk S.Store conn.old conn.new result }
-    ensures cause { IsFaultless S.Store conn.old conn.new → FailsOnlyAs IsNoDevice S.Store conn.old conn.new result }
-    ensures stays { OnOk result (Stays S.Store conn.old conn.new) }
-    ensures left { IsLeft S.Store conn.old conn.new }
+    ensures look { IsLook S.Store conn.old conn.new result (λ s so. so) }
     ensures fresh { known.now.sentences ≡ 0 → result ≡ Ok None }
 {
     if known.sentences == 0 {

@@ -1,3 +1,4 @@
+pub mod Prelude
 pub mod Readable
 pub mod Found
 pub mod Streams

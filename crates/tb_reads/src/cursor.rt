@@ -3,12 +3,8 @@
 ghost use Rattle.std.specs.Prelude.{◌≡◌, ◌≢◌, true, List, map, All, Err, IfOk, IfErr, option_map, Some, None};
 ghost use Rattle.std.specs.Borrow.{sem, RestsIfErr};
 ghost use Rattle.sqlite.specs.contracts.connection.Connection.{the_row};
-ghost use Rattle.sqlite.specs.State.{HasCleanDisk};
-ghost use Rattle.sqlite.specs.Held.{state};
-ghost use Rattle.sqlite.specs.Given.{row_if};
-ghost use Rattle.sqlite_trees.specs.Tree.{IsAscending};
-ghost use Rattle.tb_tables.specs.Layout.{desk_schema};
-ghost use Rattle.tb_tables.specs.Records.{Revision, Shows, revision_shown, revision_view};
+ghost use Rattle.tb_reads.specs.Prelude.{desk_schema, HasCleanDisk, IsAscending, Revision, revision_shown};
+ghost use Rattle.tb_reads.specs.Prelude.{revision_view, row_if, Shows, state};
 ghost use Rattle.tb_reads.specs.Readable.{IsRevision, ComesBefore};
 ghost use Rattle.tb_reads.specs.ReadOnly.{IsReadOnly};
 ghost use Rattle.tb_reads.specs.Streams.{AreToCome, EndsAs, IsLeft, body_shown, lent_shown};

@@ -1,5 +1,9 @@
 //! Why a read gives no records.
 
+ghost use Rattle.std.specs.Prelude.{◌≡◌};
+ghost use Rattle.tb_reads.specs.Prelude.{OutOfMemory, SqliteFailure};
+ghost use Rattle.tb_reads.specs.declared.error.ReadError.TheVariants.{Store};
+
 use sqlite::{Error, ErrorCode};
 use std::alloc::AllocFailed;
 
@@ -13,11 +17,6 @@ pub enum ReadError {
 }
 
 impl<T: Drop> From<AllocFailed<T>> for ReadError {
-    ghost use Rattle.std.specs.Prelude.{◌≡◌};
-    ghost use Rattle.sqlite.specs.declared.error.Error.TheVariants.{SqliteFailure};
-    ghost use Rattle.sqlite.specs.declared.error.ErrorCode.TheVariants.{OutOfMemory};
-    ghost use Rattle.tb_reads.specs.declared.error.ReadError.TheVariants.{Store};
-
     ghost from_gives = { λ _ e. e ≡ Store (SqliteFailure OutOfMemory) };
 
     fn from(_: AllocFailed<T>) -> ReadError {
@@ -26,9 +25,6 @@ impl<T: Drop> From<AllocFailed<T>> for ReadError {
 }
 
 impl From<Error> for ReadError {
-    ghost use Rattle.std.specs.Prelude.{◌≡◌};
-    ghost use Rattle.tb_reads.specs.declared.error.ReadError.TheVariants.{Store};
-
     ghost from_gives = { λ x e. e ≡ Store x };
 
     fn from(error: Error) -> ReadError {

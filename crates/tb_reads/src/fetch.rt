@@ -1,13 +1,8 @@
 //! The statements that read a desk.
 
 ghost use Rattle.std.specs.Prelude.{◌≡◌, ◌≢◌, List, All, map, Err, IfOk, is_ok};
-ghost use Rattle.sqlite.specs.Held.{state};
-ghost use Rattle.sqlite.specs.Order.{Row as Columns};
-ghost use Rattle.sqlite.specs.State.{HasCleanDisk, Shown};
-ghost use Rattle.sqlite.specs.Values.{bound};
-ghost use Rattle.tb_tables.specs.Failing.{IsStoreFault, IsWant};
-ghost use Rattle.tb_tables.specs.Leaving.{FailsOnlyAs, IsFaultless};
-ghost use Rattle.tb_tables.specs.Records.{numbered};
+ghost use Rattle.tb_reads.specs.Prelude.{bound, Columns, FailsOnlyAs, HasCleanDisk, IsFaultless, IsStoreFault, IsWant};
+ghost use Rattle.tb_reads.specs.Prelude.{numbered, Shown, state};
 ghost use Rattle.tb_reads.specs.Failing.{IsDeskQuery, SeesAsBefore, IsUnchangedOnForm, IsReadFault, IsReadWant};
 ghost use Rattle.tb_reads.specs.Found.{HasUnreadable, ShowsFirst};
 ghost use Rattle.tb_reads.specs.ReadOnly.{IsReadOnly};

@@ -2,12 +2,9 @@
 
 ghost use Rattle.std.specs.Prelude.{ℕ, ◌≡◌, ◌≢◌, ◌+◌, ◌<◌, ◌^◌, length, map, pos, List, All, ◌↔◌, ⊤, Some, slice_get};
 ghost use Rattle.std.specs.Prelude.{[], Err, IfOk, IsOk, IsTrue, cond, string_bytes, IfErr};
-ghost use Rattle.sqlite.specs.Order.{column};
-ghost use Rattle.sqlite.specs.declared.error.ErrorCode.TheVariants.{OutOfMemory};
-ghost use Rattle.sqlite.specs.declared.types.Value.TheVariants.{Int, Text};
-ghost use Rattle.tb_tables.specs.Records.{Batch, Sentence, Revision, Move, Total, numbered, batch_shown};
-ghost use Rattle.tb_tables.specs.Records.{sentence_shown, revision_shown, move_shown, total_shown};
-ghost use Rattle.tb_tables.specs.Values.{batch_of, sentence_of, revision_of, move_of, total_of};
+ghost use Rattle.tb_reads.specs.Prelude.{Batch, batch_of, batch_shown, column, Int, Move, move_of, move_shown};
+ghost use Rattle.tb_reads.specs.Prelude.{numbered, OutOfMemory, Revision, revision_of, revision_shown, Sentence};
+ghost use Rattle.tb_reads.specs.Prelude.{sentence_of, sentence_shown, Text, Total, total_of, total_shown};
 ghost use Rattle.tb_reads.specs.Readable.{IsBatch, IsSentence, IsRevision, IsMove, IsTotal, ShowsText};
 ghost use Rattle.tb_reads.specs.Found.{HasUnreadable, ShowsFirst};
 ghost use Rattle.tb_reads.specs.Failing.{IsReadFault, IsReadWant, IsUnread};

@@ -2,15 +2,14 @@
 
 ghost use Rattle.std.specs.Prelude.{ℕ, ◌≡◌, ◌<◌, ◌^◌, ◌-◌, ◌↔◌, map, length, is_ok, IsTrue, List, Contains, All, Err};
 ghost use Rattle.std.specs.Prelude.{option_map, slice_get};
-ghost use Rattle.tb_tables.specs.Records.{Batch, Sentence, Revision, Shows, numbered, batch_shown, sentence_shown};
-ghost use Rattle.tb_tables.specs.Records.{revision_shown, number_shown, batch_view, sentence_view, revision_view};
-ghost use Rattle.tb_tables.specs.Records.{number_view};
-ghost use Rattle.tb_tables.specs.Values.{batch_of, sentence_of, revision_of};
+ghost use Rattle.tb_reads.specs.Prelude.{Batch, batch_of, batch_shown, batch_view, FailsOnlyAs, IsFaultless};
+ghost use Rattle.tb_reads.specs.Prelude.{number_shown, number_view, numbered, Reads, Revision, revision_of};
+ghost use Rattle.tb_reads.specs.Prelude.{revision_shown, revision_view, Sentence, sentence_of, sentence_shown};
+ghost use Rattle.tb_reads.specs.Prelude.{sentence_view, Shows};
 ghost use Rattle.tb_reads.specs.Readable.{IsBatch, IsSentence, IsRevision};
 ghost use Rattle.tb_reads.specs.Found.{IsNumberOf, IsRevisionAt};
 ghost use Rattle.tb_reads.specs.Failing.{HasNoForm, IsReadFault, IsReadWant};
 ghost use Rattle.tb_reads.specs.ReadOnly.{IsReadOnly};
-ghost use Rattle.tb_tables.specs.Leaving.{FailsOnlyAs, Reads, IsFaultless};
 
 use crate::error::ReadError;
 use crate::fetch::{fetch_first, fetch_rows};

@@ -1,12 +1,12 @@
 //! Rows one at a time, while the connection is borrowed: what a walk over the whole treebank reads.
 
 ghost use Rattle.std.specs.Prelude.{◌≡◌, ◌≢◌, map, List, All, Err, IfOk, IfErr, is_ok};
-ghost use Rattle.tb_tables.specs.Records.{Sentence, Shows, numbered, sentence_shown, sentence_view};
+ghost use Rattle.tb_reads.specs.Prelude.{FailsOnlyAs, IsFaultless, numbered, Reads, Sentence, sentence_shown};
+ghost use Rattle.tb_reads.specs.Prelude.{sentence_view, Shows};
 ghost use Rattle.tb_reads.specs.Readable.{IsSentence, IsHead};
 ghost use Rattle.tb_reads.specs.Failing.{HasNoForm, IsReadFault, IsReadWant};
 ghost use Rattle.tb_reads.specs.Streams.{head_of, head_shown};
 ghost use Rattle.tb_reads.specs.ReadOnly.{IsReadOnly};
-ghost use Rattle.tb_tables.specs.Leaving.{FailsOnlyAs, Reads, IsFaultless};
 
 use crate::error::ReadError;
 use crate::records::number_at;

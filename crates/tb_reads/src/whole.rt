@@ -1,16 +1,14 @@
 //! Whole tables, in the order of their keys, as typed records: what the opening of a file reads.
 
 ghost use Rattle.std.specs.Prelude.{ℕ, ◌≡◌, ◌<◌, ◌^◌, map, List, All, is_ok};
-ghost use Rattle.sqlite_trees.specs.Tree.{IsAscending};
-ghost use Rattle.tb_tables.specs.Records.{Batch, Sentence, Revision, Move, Total, Shows, numbered, batch_shown};
-ghost use Rattle.tb_tables.specs.Records.{sentence_shown, revision_shown, move_shown, total_shown, number_shown};
-ghost use Rattle.tb_tables.specs.Records.{meta_view, batch_view, sentence_view, revision_view, move_view, total_view};
-ghost use Rattle.tb_tables.specs.Records.{number_view};
-ghost use Rattle.tb_tables.specs.Values.{batch_of, sentence_of, revision_of, move_of, total_of};
+ghost use Rattle.tb_reads.specs.Prelude.{Batch, batch_of, batch_shown, batch_view, FailsOnlyAs, IsAscending};
+ghost use Rattle.tb_reads.specs.Prelude.{IsFaultless, meta_view, Move, move_of, move_shown, move_view, number_shown};
+ghost use Rattle.tb_reads.specs.Prelude.{number_view, numbered, Reads, Revision, revision_of, revision_shown};
+ghost use Rattle.tb_reads.specs.Prelude.{revision_view, Sentence, sentence_of, sentence_shown, sentence_view, Shows};
+ghost use Rattle.tb_reads.specs.Prelude.{Total, total_of, total_shown, total_view};
 ghost use Rattle.tb_reads.specs.Readable.{IsBatch, IsSentence, IsRevision, IsMove, IsTotal, ComesBefore};
 ghost use Rattle.tb_reads.specs.Failing.{HasNoForm, IsReadFault, IsUnchangedOnForm, SeesAsBefore, IsReadWant};
 ghost use Rattle.tb_reads.specs.ReadOnly.{IsReadOnly};
-ghost use Rattle.tb_tables.specs.Leaving.{FailsOnlyAs, Reads, IsFaultless};
 
 use crate::error::ReadError;
 use crate::fetch::fetch_all;

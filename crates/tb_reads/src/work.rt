@@ -1,12 +1,12 @@
 //! The sentences of a batch.
 
 ghost use Rattle.std.specs.Prelude.{◌≡◌, ◌<◌, ◌^◌, length, List, All, is_ok};
-ghost use Rattle.tb_tables.specs.Records.{Sentence, Shows, numbered, sentence_shown, sentence_view};
+ghost use Rattle.tb_reads.specs.Prelude.{FailsOnlyAs, IsFaultless, numbered, Reads, Sentence, sentence_shown};
+ghost use Rattle.tb_reads.specs.Prelude.{sentence_view, Shows};
 ghost use Rattle.tb_reads.specs.Readable.{IsSentence};
 ghost use Rattle.tb_reads.specs.Found.{work_of};
 ghost use Rattle.tb_reads.specs.Failing.{HasNoForm, IsReadFault, IsReadWant};
 ghost use Rattle.tb_reads.specs.ReadOnly.{IsReadOnly};
-ghost use Rattle.tb_tables.specs.Leaving.{FailsOnlyAs, Reads, IsFaultless};
 
 use crate::error::ReadError;
 use crate::fetch::fetch_all;

@@ -5,5 +5,6 @@ pub mod Visiting
 pub mod Rises
 pub mod Walking
 mod Copied
+mod Ends
 mod Found
 mod Seeking

@@ -1,6 +1,6 @@
 -- Between crates: no contract of a front door cites a definition of this module.
 -- How a walk over the text of a desk ends early.
-use Rattle.std.specs.Prelude.{◌≡◌, List, All, map, Result, IfErr, None}
+use Rattle.std.specs.Prelude.{◌≡◌, List, All, map, Result, IfErr, None, is_ok}
 use Rattle.sqlite.specs.Store.{Ghosts}
 use Rattle.sqlite.specs.Held.{Held, state}
 use Rattle.sqlite.specs.State.{HasCleanDisk}
@@ -10,6 +10,7 @@ use Rattle.tb_tables.specs.Layout.{desk_schema}
 use Rattle.tb_tables.specs.Leaving.{IsFaultless}
 use Rattle.tb_tables.specs.Records.{Revision, Shows, revision_shown, revision_view}
 use Rattle.tb_reads.specs.Readable.{IsRevision, ComesBefore}
+use Rattle.tb_reads.specs.ReadOnly.{IsReadOnly}
 use Rattle.tb_refine.specs.DeskTables.{IsDeskOf}
 use Rattle.tb_search.specs.declared.stopped.Stopped.{Stopped}
 use Rattle.tb_search.specs.Visited.{IsFault, IsStopFault, IsStopWant}
@@ -37,3 +38,10 @@ WalksUntilWant g old new result =
     → IfErr result (λ e. (state g old).now.schema ≡ desk_schema
     → (xs : List Revision) → All IsRevision xs → IsAscending ComesBefore xs
     → Shows revision_view (map revision_shown xs) ((state g old).now.trees 5) → IsStopWant e)
+
+-- a read of a desk's sentences: how it ends early, and that the records stay
+pub record IsTextRead {S X : Type 0} (g : Ghosts S) (old new : Held S) (result : Result X Stopped) : Type 0 where
+  pub fault : StopsForFault g old new result
+  pub fails : StopsForStore g old new result
+  pub cause : StopsForWant g old new result
+  pub read_only : IsReadOnly g old new (is_ok result)

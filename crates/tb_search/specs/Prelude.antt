@@ -1,5 +1,7 @@
 -- Names of other crates that contracts here cite, each with its module.
 pub use Rattle.std.specs.Io.KnownBytes.{Appends}
+pub use Rattle.sqlite.specs.declared.error.Error.TheVariants.{SqliteFailure}
+pub use Rattle.sqlite.specs.declared.error.ErrorCode.TheVariants.{OutOfMemory}
 pub use Rattle.sqlite.specs.Held.{state}
 pub use Rattle.sqlite.specs.State.{HasCleanDisk}
 pub use Rattle.sqlite_trees.specs.Tree.{IsAscending}
@@ -18,6 +20,7 @@ pub use Rattle.tb_core.specs.declared.kinds.State.{State as AnyState}
 pub use Rattle.tb_tables.specs.Layout.{desk_schema}
 pub use Rattle.tb_tables.specs.Records.{Revision, revision_shown, revision_view, Shows}
 pub use Rattle.tb_tables.specs.Values.{batch_of}
+pub use Rattle.tb_reads.specs.declared.error.ReadError.TheVariants.{Store}
 pub use Rattle.tb_reads.specs.ReadOnly.{IsReadOnly}
 pub use Rattle.tb_reads.specs.Readable.{ComesBefore, IsRevision}
 pub use Rattle.tb_reads.specs.Streams.{head_of}

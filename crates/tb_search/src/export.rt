@@ -1,11 +1,11 @@
 //! Exports the text of released sentences, and that of a batch.
 
-ghost use Rattle.std.specs.Prelude.{◌≡◌, ◌≢◌, nat_eq, Err, is_ok};
-ghost use Rattle.tb_search.specs.Prelude.{Appends, IsReadOnly, Tells, TellsOnErr, TellsOnOk};
+ghost use Rattle.std.specs.Prelude.{◌≡◌, ◌≢◌, nat_eq, Err};
+ghost use Rattle.tb_search.specs.Prelude.{Appends, Tells, TellsOnErr, TellsOnOk};
 ghost use Rattle.tb_search.specs.Released.{released, in_batch, current_text, IsCutShort};
 ghost use Rattle.tb_search.specs.Visited.{HasReason};
 ghost use Rattle.tb_search.specs.Picked.{picks_from};
-ghost use Rattle.tb_search.specs.Ending.{StopsForFault, StopsForStore, StopsForWant};
+ghost use Rattle.tb_search.specs.Ending.{IsTextRead};
 
 use crate::copy_text::CopyText;
 use crate::picks::{Pick, picks_of};
@@ -26,10 +26,7 @@ fn batch_picks<S: Alter>(
     ensures picked { Tells S.Store conn.old conn.new result (λ s v. v.items ≡ picks_from (λ x.
         nat_eq x.batch batch) 1 s.sentences) }
     ensures never_refuses { result ≢ Err Stopped.Output }
-    ensures fault { StopsForFault S.Store conn.old conn.new result }
-    ensures fails { StopsForStore S.Store conn.old conn.new result }
-    ensures cause { StopsForWant S.Store conn.old conn.new result }
-    ensures read_only { IsReadOnly S.Store conn.old conn.new (is_ok result) }
+    ensures read { IsTextRead S.Store conn.old conn.new result }
 {
     desk_rows_are_readable();
     let work = tb_reads::sentences_of(alloc, conn, batch)?;
@@ -55,10 +52,7 @@ pub fn export_released<S: Alter, W: Sink>(
     ensures part { TellsOnErr S.Store conn.old conn.new result (λ s e. IsCutShort e (W.held out.old) (W.held out.new)
         (released s)) }
     ensures refused { result ≡ Err Stopped.Output → HasReason (W.IsRefusal out.new) }
-    ensures fault { StopsForFault S.Store conn.old conn.new result }
-    ensures fails { StopsForStore S.Store conn.old conn.new result }
-    ensures cause { StopsForWant S.Store conn.old conn.new result }
-    ensures read_only { IsReadOnly S.Store conn.old conn.new (is_ok result) }
+    ensures read { IsTextRead S.Store conn.old conn.new result }
 {
     visit_released(alloc, conn, &mut CopyText, out)
 }
@@ -79,10 +73,7 @@ pub fn export_numbered<S: Alter, W: Sink>(
     ensures part { TellsOnErr S.Store conn.old conn.new result (λ s e. IsCutShort e (W.held out.old) (W.held out.new)
         (in_batch s batch)) }
     ensures refused { result ≡ Err Stopped.Output → HasReason (W.IsRefusal out.new) }
-    ensures fault { StopsForFault S.Store conn.old conn.new result }
-    ensures fails { StopsForStore S.Store conn.old conn.new result }
-    ensures cause { StopsForWant S.Store conn.old conn.new result }
-    ensures read_only { IsReadOnly S.Store conn.old conn.new (is_ok result) }
+    ensures read { IsTextRead S.Store conn.old conn.new result }
 {
     desk_rows_are_readable();
     let picks = batch_picks(alloc, conn, batch)?;

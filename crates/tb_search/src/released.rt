@@ -5,7 +5,7 @@ ghost use Rattle.tb_search.specs.Prelude.{head_of, IsReadOnly, sentence_record, 
 ghost use Rattle.tb_search.specs.Released.{released, is_released as is_in_release};
 ghost use Rattle.tb_search.specs.Picked.{picks_from};
 ghost use Rattle.tb_search.specs.Visited.{AllTaken, Halted, texts};
-ghost use Rattle.tb_search.specs.Ending.{StopsForFault, StopsForStore, StopsForWant};
+ghost use Rattle.tb_search.specs.Ending.{IsTextRead, StopsForStore, StopsForWant};
 
 use crate::picks::{Pick, released_of};
 use crate::stopped::Stopped;
@@ -27,10 +27,7 @@ fn released_among<S: Alter>(
         heads.now ≡ map head_of (map sentence_record s.sentences)
         → v.items ≡ picks_from (is_in_release s.batches) 1 s.sentences) }
     ensures never_refuses { result ≢ Err Stopped.Output }
-    ensures fault { StopsForFault S.Store conn.old conn.new result }
-    ensures fails { StopsForStore S.Store conn.old conn.new result }
-    ensures cause { StopsForWant S.Store conn.old conn.new result }
-    ensures read_only { IsReadOnly S.Store conn.old conn.new (is_ok result) }
+    ensures read { IsTextRead S.Store conn.old conn.new result }
 {
     desk_rows_are_readable();
     let batches = tb_reads::batches(alloc, conn)?;
@@ -43,10 +40,7 @@ fn released_picks<S: Alter>(alloc: Global, conn: &mut Connection<S>) -> Result<V
     ensures picked { Tells S.Store conn.old conn.new result (λ s v.
         v.items ≡ picks_from (is_in_release s.batches) 1 s.sentences) }
     ensures never_refuses { result ≢ Err Stopped.Output }
-    ensures fault { StopsForFault S.Store conn.old conn.new result }
-    ensures fails { StopsForStore S.Store conn.old conn.new result }
-    ensures cause { StopsForWant S.Store conn.old conn.new result }
-    ensures read_only { IsReadOnly S.Store conn.old conn.new (is_ok result) }
+    ensures read { IsTextRead S.Store conn.old conn.new result }
 {
     desk_rows_are_readable();
     let heads = tb_reads::heads(alloc, conn)?;

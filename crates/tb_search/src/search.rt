@@ -1,11 +1,10 @@
 //! Searches released text: its keyword lines, the table of its keys, or the number of hits.
 
-ghost use Rattle.std.specs.Prelude.{◌≡◌, ◌≢◌, List, length, Err, is_ok};
-ghost use Rattle.tb_search.specs.Prelude.{AnyStrategy, Appends, Asked, BlockText, IsReadOnly, IsTableOf, Tells};
-ghost use Rattle.tb_search.specs.Prelude.{TellsOnErr};
+ghost use Rattle.std.specs.Prelude.{◌≡◌, ◌≢◌, List, length, Err};
+ghost use Rattle.tb_search.specs.Prelude.{AnyStrategy, Appends, Asked, BlockText, IsTableOf, Tells, TellsOnErr};
 ghost use Rattle.tb_search.specs.Visited.{HasReason};
 ghost use Rattle.tb_search.specs.Searched.{AreFound, IsSearchBrokenOff, Occurrence, answer, keys, searched};
-ghost use Rattle.tb_search.specs.Ending.{StopsForFault, StopsForStore, StopsForWant};
+ghost use Rattle.tb_search.specs.Ending.{IsTextRead};
 
 use crate::count_hits::CountHits;
 use crate::count_keys::CountKeys;
@@ -37,10 +36,7 @@ pub fn number_released<S: Alter>(
     ensures answered { Tells S.Store conn.old conn.new result (λ s n. (found : List Occurrence)
         × AreFound strategy query.now (searched s) found × (n ≡ length found)) }
     ensures never_refuses { result ≢ Err Stopped.Output }
-    ensures fault { StopsForFault S.Store conn.old conn.new result }
-    ensures fails { StopsForStore S.Store conn.old conn.new result }
-    ensures cause { StopsForWant S.Store conn.old conn.new result }
-    ensures read_only { IsReadOnly S.Store conn.old conn.new (is_ok result) }
+    ensures read { IsTextRead S.Store conn.old conn.new result }
 {
     revisions_read_back();
     let seeker = SentenceSearcher::new(alloc, query, strategy)?;
@@ -67,10 +63,7 @@ pub fn count_released<S: Alter>(
     ensures answered { Tells S.Store conn.old conn.new result (λ s table. (found : List Occurrence)
         × AreFound strategy query.now (searched s) found × IsTableOf (keys column found) table) }
     ensures never_refuses { result ≢ Err Stopped.Output }
-    ensures fault { StopsForFault S.Store conn.old conn.new result }
-    ensures fails { StopsForStore S.Store conn.old conn.new result }
-    ensures cause { StopsForWant S.Store conn.old conn.new result }
-    ensures read_only { IsReadOnly S.Store conn.old conn.new (is_ok result) }
+    ensures read { IsTextRead S.Store conn.old conn.new result }
 {
     revisions_read_back();
     let seeker = SentenceSearcher::new(alloc, query, strategy)?;
@@ -102,13 +95,10 @@ pub fn search_released<S: Alter, W: Sink>(
         × AreFound strategy query.now (searched s) found × (n ≡ length found)
         × Appends (W.held out.old) (W.held out.new) (answer context found)) }
     ensures refused { result ≡ Err Stopped.Output → HasReason (W.IsRefusal out.new) }
-    ensures fault { StopsForFault S.Store conn.old conn.new result }
-    ensures fails { StopsForStore S.Store conn.old conn.new result }
-    ensures cause { StopsForWant S.Store conn.old conn.new result }
     ensures broken { TellsOnErr S.Store conn.old conn.new result (λ s e. (found : List Occurrence)
         → AreFound strategy query.now (searched s) found
         → IsSearchBrokenOff e (W.held out.old) (W.held out.new) context found) }
-    ensures read_only { IsReadOnly S.Store conn.old conn.new (is_ok result) }
+    ensures read { IsTextRead S.Store conn.old conn.new result }
 {
     revisions_read_back();
     let seeker = SentenceSearcher::new(alloc, query, strategy)?;

@@ -1,5 +1,9 @@
 //! Why a walk over the sentences of a desk ends early.
 
+ghost use Rattle.std.specs.Prelude.{◌≡◌};
+ghost use Rattle.tb_search.specs.Prelude.{OutOfMemory, SqliteFailure, Store};
+ghost use Rattle.tb_search.specs.declared.stopped.Stopped.TheVariants.{Read};
+
 use sqlite::{Error, ErrorCode};
 use std::alloc::{AllocError, AllocFailed};
 use tb_reads::ReadError;
@@ -14,12 +18,6 @@ pub enum Stopped {
 }
 
 impl<T: Drop> From<AllocFailed<T>> for Stopped {
-    ghost use Rattle.std.specs.Prelude.{◌≡◌};
-    ghost use Rattle.sqlite.specs.declared.error.Error.TheVariants.{SqliteFailure};
-    ghost use Rattle.sqlite.specs.declared.error.ErrorCode.TheVariants.{OutOfMemory};
-    ghost use Rattle.tb_reads.specs.declared.error.ReadError.TheVariants.{Store};
-    ghost use Rattle.tb_search.specs.declared.stopped.Stopped.TheVariants.{Read};
-
     ghost from_gives = { λ _ e. e ≡ Read (Store (SqliteFailure OutOfMemory)) };
 
     fn from(_: AllocFailed<T>) -> Stopped {
@@ -28,12 +26,6 @@ impl<T: Drop> From<AllocFailed<T>> for Stopped {
 }
 
 impl From<AllocError> for Stopped {
-    ghost use Rattle.std.specs.Prelude.{◌≡◌};
-    ghost use Rattle.sqlite.specs.declared.error.Error.TheVariants.{SqliteFailure};
-    ghost use Rattle.sqlite.specs.declared.error.ErrorCode.TheVariants.{OutOfMemory};
-    ghost use Rattle.tb_reads.specs.declared.error.ReadError.TheVariants.{Store};
-    ghost use Rattle.tb_search.specs.declared.stopped.Stopped.TheVariants.{Read};
-
     ghost from_gives = { λ _ e. e ≡ Read (Store (SqliteFailure OutOfMemory)) };
 
     fn from(_: AllocError) -> Stopped {
@@ -42,9 +34,6 @@ impl From<AllocError> for Stopped {
 }
 
 impl From<ReadError> for Stopped {
-    ghost use Rattle.std.specs.Prelude.{◌≡◌};
-    ghost use Rattle.tb_search.specs.declared.stopped.Stopped.TheVariants.{Read};
-
     ghost from_gives = { λ x e. e ≡ Read x };
 
     fn from(error: ReadError) -> Stopped {
@@ -53,10 +42,6 @@ impl From<ReadError> for Stopped {
 }
 
 impl From<Error> for Stopped {
-    ghost use Rattle.std.specs.Prelude.{◌≡◌};
-    ghost use Rattle.tb_reads.specs.declared.error.ReadError.TheVariants.{Store};
-    ghost use Rattle.tb_search.specs.declared.stopped.Stopped.TheVariants.{Read};
-
     ghost from_gives = { λ x e. e ≡ Read (Store x) };
 
     fn from(error: Error) -> Stopped {

@@ -1,5 +1,5 @@
 -- What a desk answers from its state.
-use Rattle.std.specs.Prelude.{◌≡◌, ◌⊎◌, ◌+◌, ℕ, List, [], ◌∷◌, length, ⊤}
+use Rattle.std.specs.Prelude.{◌≡◌, ◌⊎◌, ◌+◌, ◌-◌, ℕ, List, [], ◌∷◌, length, slice_get, Some, ⊤}
 use Rattle.tb_conllu.specs.Text.{text_of}
 use Rattle.tb_core.specs.declared.refusals.Refusal.TheVariants.{NoSuchSentence, NoSuchRevision}
 use Rattle.tb_core.specs.declared.refusals.Fault.{Fault}
@@ -36,6 +36,11 @@ pub record IsRevisionText (s : Machine) (sentence revision : ℕ) (text : List �
   pub given : Revision
   pub current : HasRevision found revision given
   pub reported : text ≡ text_of (given.body ∷ [])
+
+-- the same, where there is such a sentence
+abbrev pub IsTextOf : Machine → ℕ → ℕ → List ℕ → Type 0
+IsTextOf s sentence revision text = (x : Sentence) → slice_get s.sentences (sentence - 1) ≡ Some x
+    → (q : Revision) × HasRevision x revision q × (text ≡ text_of (q.body ∷ []))
 
 -- the number and the text of the current revision of this sentence
 pub record IsCurrent (s : Machine) (sentence revision : ℕ) (text : List ℕ) : Type 0 where

@@ -6,7 +6,7 @@ ghost use Rattle.tb_store.specs.Prelude.{AnyRefusal, AreSentences, AreTotalsOf, 
 ghost use Rattle.tb_store.specs.Prelude.{is_name, IsDeskOf, IsFaultless, IsFound, IsNoDevice, IsRead, IsReadOnly};
 ghost use Rattle.tb_store.specs.Prelude.{IsReadWhere, KnowsDesk, KnowsDeskWhere, Machine, rev_of, Revision, Sentence};
 ghost use Rattle.tb_store.specs.Prelude.{state, tables_of, Tells, TellsOnErr, text_of, total_of};
-ghost use Rattle.tb_store.specs.Answers.{RefusesId};
+ghost use Rattle.tb_store.specs.Answers.{IsTextOf, RefusesId};
 ghost use Rattle.tb_store.specs.Exports.{RefusesBatch};
 
 use crate::answers::Current;
@@ -25,9 +25,6 @@ fn six_totals(rows: &[TotalRow]) -> Result<Totals, Fault>
     ensures rows { IfOk result (λ t. (t.sentences ≡ map (λ r. r.sentences) rows.now)
         × (t.words ≡ map (λ r. r.words) rows.now)) }
     ensures six { result ≡ Err Fault.NotADesk → length rows.now ≢ 6 }
-    ensures cause { IfErr result IsNoDevice }
-    ensures output { result ≢ Err Fault.Output }
-    ensures never_refuses { (r : AnyRefusal) → result ≢ Err (Fault.Refused r) }
     ensures fault { IfErr result (λ e. e ≡ Fault.NotADesk) }
 {
     match stored_totals(rows) {
@@ -68,15 +65,9 @@ pub(crate) fn current<S: Alter>(conn: &mut Connection<S>, number: u32) -> Result
 }
 
 /// The text of a revision of the sentence with this number. Both exist.
-pub(crate) fn text<S: Alter>(
-    conn: &mut Connection<S>,
-    number: u32,
-    rev: u32,
-) -> Result<String, Fault>
+fn text<S: Alter>(conn: &mut Connection<S>, number: u32, rev: u32) -> Result<String, Fault>
     requires { 0 < number }
-    ensures answered { Tells S.Store conn.old conn.new result (λ s t. (x : Sentence)
-        → slice_get s.sentences (number - 1) ≡ Some x → (q : Revision) × HasRevision x rev q
-        × (string_bytes t ≡ text_of (q.body ∷ []))) }
+    ensures answered { Tells S.Store conn.old conn.new result (λ s t. IsTextOf s number rev (string_bytes t)) }
     ensures read { IsReadWhere S.Store conn.old conn.new result (λ s so. (x : Sentence)
         → slice_get s.sentences (number - 1) ≡ Some x
         → (q : Revision) → HasRevision x rev q → so) }
@@ -129,9 +120,7 @@ pub(crate) fn revision<S: Alter>(
     rev: u64,
 ) -> Result<String, Fault>
     requires { 0 < number }
-    ensures answered { Tells S.Store conn.old conn.new result (λ s t. (x : Sentence)
-        → slice_get s.sentences (number - 1) ≡ Some x → (q : Revision) × HasRevision x rev q
-        × (string_bytes t ≡ text_of (q.body ∷ []))) }
+    ensures answered { Tells S.Store conn.old conn.new result (λ s t. IsTextOf s number rev (string_bytes t)) }
     ensures refused { HasCleanDisk (state S.Store conn.new) → (r : AnyRefusal) → result ≡ Err (Fault.Refused r)
         → (r ≡ Refusal.NoSuchRevision) × ((s : Machine) → IsDeskOf S.Store conn.old s → (x : Sentence)
         → slice_get s.sentences (number - 1) ≡ Some x → (q : Revision) → HasRevision x rev q → ⊥) }

@@ -1,7 +1,8 @@
 use Rattle.std.proofs.Common.{ap, string_bytes, ◌∙◌}
 use Rattle.tb_tables.specs.Records.{Batch}
 use Rattle.tb_reads.proofs.Shown.{if_ok}
-use Rattle.tb_refine.proofs.DeskReads.{read_made, read_stopped}
+use Rattle.tb_refine.proofs.DeskReads.{read_stopped}
+use Rattle.tb_commands.proofs.Fits.{read_fit}
 use Rattle.tb_commands.proofs.finding.batch.Goals as goal
 
 pub returns-clause-answered : goal.returns-clause-answered
@@ -16,6 +17,6 @@ returns-in_err-row-clause-read g c =
 
 pub returns-clause-read : goal.returns-clause-read
 returns-clause-read g c =
-    read_made c.read_batch.result c.in_ok-row.ensures.read.read_only c.read_batch.ensures.never_refuses c.read_batch.ensures.output c.read_batch.ensures.cause (λ clean unlimited s desk above b there bad.
+    read_fit c.read_batch.result c.in_ok-row.ensures.read.read_only c.read_batch.ensures.fault (λ clean unlimited s desk above b there bad.
     let row = c.in_ok-row.ensures.answered clean s desk b there in
     c.read_batch.ensures.fails b.state (ap (λ (r : Batch). r.state) row) bad)

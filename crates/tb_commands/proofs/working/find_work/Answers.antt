@@ -3,7 +3,8 @@ use Rattle.tb_reads.proofs.Shown.{if_ok}
 use Rattle.tb_refine.proofs.Unchanged.{desk_after}
 use Rattle.tb_commands.proofs.Summing.{sums_stand, work_fits}
 use Rattle.tb_reads.proofs.ReadOnly.{read_then, was_clean}
-use Rattle.tb_refine.proofs.DeskReads.{next_stopped, read_made, read_stopped}
+use Rattle.tb_refine.proofs.DeskReads.{next_stopped, read_stopped}
+use Rattle.tb_commands.proofs.Fits.{read_fit}
 use Rattle.tb_commands.proofs.working.find_work.Goals as goal
 
 pub returns-clause-answered : goal.returns-clause-answered
@@ -24,7 +25,7 @@ returns-in_err-pulled-clause-read g c =
 
 pub returns-clause-read : goal.returns-clause-read
 returns-clause-read g c =
-    read_made c.sums_of.result (read_then c.in_ok-work.ensures.read.read_only c.in_ok-pulled.ensures.read.read_only) c.sums_of.ensures.never_refuses c.sums_of.ensures.output c.sums_of.ensures.cause (λ clean unlimited s desk bad.
+    read_fit c.sums_of.result (read_then c.in_ok-work.ensures.read.read_only c.in_ok-pulled.ensures.read.read_only) c.sums_of.ensures.fault (λ clean unlimited s desk bad.
     let mid = was_clean c.read_pulled.ensures.read.read_only clean in
     let well = c.reached_states_are_well.ensures s desk.reachable.reached in
     let work : c.as_slice.result.now ≡ c.in_ok-work.work.items = search rules in

@@ -18,7 +18,7 @@ returns-in_err-judge_import_after-clause-refused g c clean r is s name user body
     let found = c.in_ok-standing.ensures.answered clean s bs desk known is_taken in
     let many = ap length is_taken ∙ length-map bs taken_of in
     let refusal = c.in_err-judge_import_after.ensures.refused s name user body bs taken found many (c.from.ensures ∙ known.sentences) (c.from-2.ensures ∙ known.counted.moves) in
-    (subst (λ (q : Refusal). Steps c.args.known.now.counts.limits s (import_file name user body) (refused q) s) same refusal, desk_stays g.S.Store c.args.conn.now c.first_standing.new.conn c.in_ok-standing.ensures.stays clean s desk)
+    (subst (λ (q : Refusal). Steps c.args.known.now.counts.limits s (import_file name user body) (refused q) s) same refusal, desk_stays g.S.Store c.args.conn.now c.first_standing.new.conn c.in_ok-standing.ensures.look.stays clean s desk)
 
 pub returns-clause-accepted : goal.returns-clause-accepted
 returns-clause-accepted g c clean s name user body bs desk known taken is_taken =
@@ -30,7 +30,7 @@ pub returns-in_err-standing-clause-fails : goal.returns-in_err-standing-clause-f
 returns-in_err-standing-clause-fails g c clean unlimited s desk bad =
     let reported = err_from_is_err_and c.from_residual.result c.from_residual.ensures.1 in
     let failed : c.first_standing.result ≡ Err NotADesk = let was = c.in_err-standing.was in let one = reported.1 in let two = reported.2 in cc in
-    c.first_standing.ensures.fails clean unlimited s desk failed
+    c.first_standing.ensures.look.fails clean unlimited s desk failed
 
 pub returns-in_err-judge_import_after-clause-fails : goal.returns-in_err-judge_import_after-clause-fails
 returns-in_err-judge_import_after-clause-fails g c clean unlimited s desk bad =

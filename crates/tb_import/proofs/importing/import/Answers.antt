@@ -20,7 +20,7 @@ use Rattle.tb_import.proofs.importing.import.Goals as goal
 -- ---- a refusal by the names, and a repeat
 
 pub returns-in_err-found-clause-crash : goal.returns-in_err-found-clause-crash
-returns-in_err-found-clause-crash g c = survives_weaker (state g.S.Store c.args.conn.now) (state g.S.Store c.find_name.new.conn) _ _ (λ _ _ none s desk known. absurd (none (tables_of s) desk.holds)) c.find_name.ensures.left.commits_nothing
+returns-in_err-found-clause-crash g c = survives_weaker (state g.S.Store c.args.conn.now) (state g.S.Store c.find_name.new.conn) _ _ (λ _ _ none s desk known. absurd (none (tables_of s) desk.holds)) c.find_name.ensures.look.left.commits_nothing
 
 pub returns-in_err-reply-clause-refused : goal.returns-in_err-reply-clause-refused
 returns-in_err-reply-clause-refused g c clean r is s desk known =
@@ -29,18 +29,18 @@ returns-in_err-reply-clause-refused g c clean r is s desk known =
     let two = reported.2 in
     let same : c.in_err-reply.field-0.0 ≡ r = cc in
     let refusal = c.in_err-reply.ensures.refused c.args.known.now.counts.limits s c.args.body.now in
-    (subst (λ (q : Refusal). Steps c.args.known.now.counts.limits s (import_file c.args.name.now c.args.user.now c.args.body.now) (refused q) s) same refusal, desk_stays g.S.Store c.args.conn.now c.find_name.new.conn c.in_ok-found.ensures.stays clean s desk)
+    (subst (λ (q : Refusal). Steps c.args.known.now.counts.limits s (import_file c.args.name.now c.args.user.now c.args.body.now) (refused q) s) same refusal, desk_stays g.S.Store c.args.conn.now c.find_name.new.conn c.in_ok-found.ensures.look.stays clean s desk)
 
 pub returns-in_err-reply-clause-crash : goal.returns-in_err-reply-clause-crash
-returns-in_err-reply-clause-crash g c = survives_weaker (state g.S.Store c.args.conn.now) (state g.S.Store c.find_name.new.conn) _ _ (λ _ _ none s desk known. absurd (none (tables_of s) desk.holds)) c.find_name.ensures.left.commits_nothing
+returns-in_err-reply-clause-crash g c = survives_weaker (state g.S.Store c.args.conn.now) (state g.S.Store c.find_name.new.conn) _ _ (λ _ _ none s desk known. absurd (none (tables_of s) desk.holds)) c.find_name.ensures.look.left.commits_nothing
 
 pub returns-in-Repeat-clause-answered : goal.returns-in-Repeat-clause-answered
 returns-in-Repeat-clause-answered g c clean s desk known =
     let repeated = rw c.in-Repeat.is at c.in_ok-reply.ensures.repeated in
-    (repeated c.args.known.now.counts.limits s c.args.body.now (c.in_ok-found.ensures.answered clean s desk), desk_stays g.S.Store c.args.conn.now c.find_name.new.conn c.in_ok-found.ensures.stays clean s desk)
+    (repeated c.args.known.now.counts.limits s c.args.body.now (c.in_ok-found.ensures.answered clean s desk), desk_stays g.S.Store c.args.conn.now c.find_name.new.conn c.in_ok-found.ensures.look.stays clean s desk)
 
 pub returns-in-Repeat-clause-crash : goal.returns-in-Repeat-clause-crash
-returns-in-Repeat-clause-crash g c = survives_weaker (state g.S.Store c.args.conn.now) (state g.S.Store c.find_name.new.conn) _ _ (λ _ _ none s desk known. absurd (none (tables_of s) desk.holds)) c.find_name.ensures.left.commits_nothing
+returns-in-Repeat-clause-crash g c = survives_weaker (state g.S.Store c.args.conn.now) (state g.S.Store c.find_name.new.conn) _ _ (λ _ _ none s desk known. absurd (none (tables_of s) desk.holds)) c.find_name.ensures.look.left.commits_nothing
 
 -- ---- an import that is no repeat
 
@@ -49,7 +49,7 @@ returns-in_err-reply-in-Continue-clause-refused g c clean r is s desk known =
     let reported = err_from_is_err_and c.from_residual-in_err-reply-in-Continue.result c.from_residual-in_err-reply-in-Continue.ensures.1 in
     let failed : c.import_new.result ≡ Err (Refused r) = let was = c.in_err-reply-in-Continue.was in let one = reported.1 in let two = reported.2 in cc in
     let mid : HasCleanDisk (state g.S.Store c.find_name.new.conn) = omega (arith, clean, c.import_new.ensures.crash.clean) in
-    let here = desk_stays g.S.Store c.args.conn.now c.find_name.new.conn c.in_ok-found.ensures.stays mid s desk in
+    let here = desk_stays g.S.Store c.args.conn.now c.find_name.new.conn c.in_ok-found.ensures.look.stays mid s desk in
     let found = c.in_ok-found.ensures.answered mid s desk in
     let goes = rw c.in-Continue.is at c.in_ok-reply.ensures.goes in
     c.import_new.ensures.refused clean r failed s here known (goes s c.args.body.now desk.reachable.reached found) found
@@ -59,28 +59,28 @@ returns-in_err-reply-in-Continue-clause-keeps_records g c clean opened =
     let reported = err_from_is_err_and c.from_residual-in_err-reply-in-Continue.result c.from_residual-in_err-reply-in-Continue.ensures.1 in
     let mid : HasCleanDisk (state g.S.Store c.find_name.new.conn) = omega (arith, clean, c.import_new.ensures.crash.clean) in
     let kept = c.in_err-reply-in-Continue.ensures.keeps_records clean opened in
-    rw reported.1 (λ d holds. kept d (c.in_ok-found.ensures.stays.holds mid d holds))
+    rw reported.1 (λ d holds. kept d (c.in_ok-found.ensures.look.stays.holds mid d holds))
 
 pub returns-in_err-reply-in-Continue-clause-crash : goal.returns-in_err-reply-in-Continue-clause-crash
 returns-in_err-reply-in-Continue-clause-crash g c = survives_then (state g.S.Store c.args.conn.now) (state g.S.Store c.find_name.new.conn) (state g.S.Store c.import_new.new.conn) _ _ _ (λ _ _ none s desk known. absurd (none (tables_of s) desk.holds)) (λ clean db whole s desk known.
     let mid : HasCleanDisk (state g.S.Store c.find_name.new.conn) = omega (arith, clean, c.import_new.ensures.crash.clean) in
-    let here = desk_stays g.S.Store c.args.conn.now c.find_name.new.conn c.in_ok-found.ensures.stays mid s desk in
+    let here = desk_stays g.S.Store c.args.conn.now c.find_name.new.conn c.in_ok-found.ensures.look.stays mid s desk in
     let found = c.in_ok-found.ensures.answered mid s desk in
     let goes = rw c.in-Continue.is at c.in_ok-reply.ensures.goes in
-    whole s here known (goes s c.args.body.now desk.reachable.reached found) found) c.find_name.ensures.left.commits_nothing c.import_new.ensures.crash
+    whole s here known (goes s c.args.body.now desk.reachable.reached found) found) c.find_name.ensures.look.left.commits_nothing c.import_new.ensures.crash
 
 pub returns-in_ok-reply-in-Continue-clause-crash : goal.returns-in_ok-reply-in-Continue-clause-crash
 returns-in_ok-reply-in-Continue-clause-crash g c = survives_then (state g.S.Store c.args.conn.now) (state g.S.Store c.find_name.new.conn) (state g.S.Store c.import_new.new.conn) _ _ _ (λ _ _ none s desk known. absurd (none (tables_of s) desk.holds)) (λ clean db whole s desk known.
     let mid : HasCleanDisk (state g.S.Store c.find_name.new.conn) = omega (arith, clean, c.import_new.ensures.crash.clean) in
-    let here = desk_stays g.S.Store c.args.conn.now c.find_name.new.conn c.in_ok-found.ensures.stays mid s desk in
+    let here = desk_stays g.S.Store c.args.conn.now c.find_name.new.conn c.in_ok-found.ensures.look.stays mid s desk in
     let found = c.in_ok-found.ensures.answered mid s desk in
     let goes = rw c.in-Continue.is at c.in_ok-reply.ensures.goes in
-    whole s here known (goes s c.args.body.now desk.reachable.reached found) found) c.find_name.ensures.left.commits_nothing c.import_new.ensures.crash
+    whole s here known (goes s c.args.body.now desk.reachable.reached found) found) c.find_name.ensures.look.left.commits_nothing c.import_new.ensures.crash
 
 pub returns-in_ok-reply-in-Continue-clause-answered : goal.returns-in_ok-reply-in-Continue-clause-answered
 returns-in_ok-reply-in-Continue-clause-answered g c clean s desk known =
     let mid : HasCleanDisk (state g.S.Store c.find_name.new.conn) = omega (arith, clean, c.import_new.ensures.crash.clean) in
-    let here = desk_stays g.S.Store c.args.conn.now c.find_name.new.conn c.in_ok-found.ensures.stays mid s desk in
+    let here = desk_stays g.S.Store c.args.conn.now c.find_name.new.conn c.in_ok-found.ensures.look.stays mid s desk in
     let found = c.in_ok-found.ensures.answered mid s desk in
     let goes = rw c.in-Continue.is at c.in_ok-reply.ensures.goes in
     c.in_ok-reply-in-Continue.ensures.answered clean s here known (goes s c.args.body.now desk.reachable.reached found) found
@@ -91,7 +91,7 @@ pub returns-in_err-found-clause-fails : goal.returns-in_err-found-clause-fails
 returns-in_err-found-clause-fails g c clean unlimited s desk known bad =
     let reported = err_from_is_err_and c.from_residual.result c.from_residual.ensures.1 in
     let failed : c.find_name.result ≡ Err NotADesk = let was = c.in_err-found.was in let one = reported.1 in let two = reported.2 in cc in
-    c.find_name.ensures.fails clean unlimited s desk failed
+    c.find_name.ensures.look.fails clean unlimited s desk failed
 
 pub returns-in_err-reply-clause-fails : goal.returns-in_err-reply-clause-fails
 returns-in_err-reply-clause-fails g c clean unlimited s desk known bad =
@@ -105,16 +105,16 @@ returns-in_err-reply-in-Continue-clause-fails g c clean unlimited s desk known b
     let reported = err_from_is_err_and c.from_residual-in_err-reply-in-Continue.result c.from_residual-in_err-reply-in-Continue.ensures.1 in
     let failed : c.import_new.result ≡ Err NotADesk = let was = c.in_err-reply-in-Continue.was in let one = reported.1 in let two = reported.2 in cc in
     let mid : HasCleanDisk (state g.S.Store c.find_name.new.conn) = omega (arith, clean, c.import_new.ensures.crash.clean) in
-    let here = desk_stays g.S.Store c.args.conn.now c.find_name.new.conn c.in_ok-found.ensures.stays mid s desk in
+    let here = desk_stays g.S.Store c.args.conn.now c.find_name.new.conn c.in_ok-found.ensures.look.stays mid s desk in
     let found = c.in_ok-found.ensures.answered mid s desk in
     let goes = rw c.in-Continue.is at c.in_ok-reply.ensures.goes in
-    c.import_new.ensures.fails clean (c.find_name.ensures.left.commits_nothing.limit ∙ unlimited) s here known (goes s c.args.body.now desk.reachable.reached found) found failed
+    c.import_new.ensures.fails clean (c.find_name.ensures.look.left.commits_nothing.limit ∙ unlimited) s here known (goes s c.args.body.now desk.reachable.reached found) found failed
 
 -- ---- and of no device
 
 pub returns-in_err-found-clause-cause : goal.returns-in_err-found-clause-cause
 returns-in_err-found-clause-cause g c good clean unlimited s desk known room bad =
-    never_reported c.from_residual.result bad (handed_on IsNoDevice c.from_residual.result c.in_err-found.field-0.0 c.from_residual.ensures.1 (c.in_err-found.ensures.cause good clean unlimited desk.holds.schema))
+    never_reported c.from_residual.result bad (handed_on IsNoDevice c.from_residual.result c.in_err-found.field-0.0 c.from_residual.ensures.1 (c.in_err-found.ensures.look.cause good clean unlimited desk.holds.schema))
 
 pub returns-in_err-reply-clause-cause : goal.returns-in_err-reply-clause-cause
 returns-in_err-reply-clause-cause g c good clean unlimited s desk known room bad =
@@ -128,12 +128,12 @@ returns-in_err-reply-in-Continue-clause-cause g c good clean unlimited s desk kn
     let reported = err_from_is_err_and c.from_residual-in_err-reply-in-Continue.result c.from_residual-in_err-reply-in-Continue.ensures.1 in
     let failed : c.import_new.result ≡ Err Device = let was = c.in_err-reply-in-Continue.was in let one = reported.1 in let two = reported.2 in cc in
     let mid : HasCleanDisk (state g.S.Store c.find_name.new.conn) = omega (arith, clean, c.import_new.ensures.crash.clean) in
-    let left = c.find_name.ensures.left.commits_nothing in
+    let left = c.find_name.ensures.look.left.commits_nothing in
     let still = faultless_next (state g.S.Store c.args.conn.now) (state g.S.Store c.find_name.new.conn) (state g.S.Store c.import_new.new.conn) good left mid c.import_new.ensures.crash.counts in
-    let here = desk_stays g.S.Store c.args.conn.now c.find_name.new.conn c.in_ok-found.ensures.stays mid s desk in
+    let here = desk_stays g.S.Store c.args.conn.now c.find_name.new.conn c.in_ok-found.ensures.look.stays mid s desk in
     let found = c.in_ok-found.ensures.answered mid s desk in
     let goes = rw c.in-Continue.is at c.in_ok-reply.ensures.goes in
-    let sees = c.in_ok-found.ensures.stays.sees mid desk.holds.schema in
+    let sees = c.in_ok-found.ensures.look.stays.sees mid desk.holds.schema in
     let there : HasRoomIfWritten c.args.known.now.counts.limits s (import_file c.args.name.now c.args.user.now c.args.body.now) c.args.body.now (length c.args.body.now) (state g.S.Store c.find_name.new.conn) = λ reply t steps more.
     let has = room reply t steps more in
     (has.0, subst (λ (d : Database). HasRowids (length c.args.body.now) (d.trees 5)) (sym sees) has.1) in

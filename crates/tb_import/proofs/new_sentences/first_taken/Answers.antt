@@ -1,24 +1,13 @@
-use Rattle.tb_core.specs.declared.refusals.Fault.TheVariants.{NotADesk}
-use Rattle.std.proofs.lemmas.Result.{err_from_is_err_and}
-use Rattle.std.proofs.Common.{◌≡◌, ◌+◌, ◌<◌, ◌≤◌, length, ap, subst, arith, ℕ, List, Err, ◌∙◌}
+use Rattle.std.proofs.Common.{◌≡◌, ◌+◌, ◌<◌, ◌≤◌, length, ap, subst, arith, ℕ, List}
 use Rattle.tb_core.specs.Names.{Lacks}
 use Rattle.tb_core.specs.Acts.{ids_of}
 use Rattle.tb_core.specs.Taking.{NewSentenceText}
 use Rattle.tb_core.specs.Tests.{IsFirstTaken}
-use Rattle.tb_import.proofs.Left.{left_from, stays_from, left_then, stays_then, desk_stays, left_clear}
+use Rattle.tb_import.proofs.Left.{left_from, stays_from, left_then, stays_then, desk_stays}
 use Rattle.tb_import.proofs.Takes.{one_free, first_of, all_free}
 use Rattle.tb_reads.proofs.ReadOnly.{was_clean}
+use Rattle.tb_import.proofs.Looks.{look_ended, look_of, look_well}
 use Rattle.tb_import.proofs.new_sentences.first_taken.Goals as goal
-
-pub returns-in_err-is_taken-clause-left : goal.returns-in_err-is_taken-clause-left
-returns-in_err-is_taken-clause-left g c =
-    let read = c.is_taken.ensures.read.read_only in
-    left_then g.S.Store c.args.conn.now c.loop-one.conn c.is_taken.new.conn c.loop-one.invariant.1 c.loop-one.invariant.2 (left_from read)
-
-pub returns-then-branch-clause-left : goal.returns-then-branch-clause-left
-returns-then-branch-clause-left g c =
-    let read = c.is_taken.ensures.read.read_only in
-    left_then g.S.Store c.args.conn.now c.loop-one.conn c.is_taken.new.conn c.loop-one.invariant.1 c.loop-one.invariant.2 (left_from read)
 
 pub returns-then-branch-clause-answered : goal.returns-then-branch-clause-answered
 returns-then-branch-clause-answered g c clean s bs desk is =
@@ -57,24 +46,16 @@ returns-clause-answered g c clean s bs desk is =
     let past : length c.args.taken.now ≤ c.loop-one.one-index = omega (arith, c.loop-one-test.false) in
     all_free (ids_of s.sentences) bs c.args.taken.now c.loop-one.one-index past is (c.loop-one.invariant.3 clean s desk)
 
-pub returns-in_err-is_taken-clause-fails : goal.returns-in_err-is_taken-clause-fails
-returns-in_err-is_taken-clause-fails g c clean unlimited s desk bad =
-    let reported = err_from_is_err_and c.from_residual.result c.from_residual.ensures.1 in
-    let failed : c.is_taken.result ≡ Err NotADesk = let was = c.in_err-is_taken.was in let one = reported.1 in let two = reported.2 in cc in
+pub returns-in_err-is_taken-clause-look : goal.returns-in_err-is_taken-clause-look
+returns-in_err-is_taken-clause-look g c =
     let inv = c.loop-one.invariant in
-    let mid = was_clean c.is_taken.ensures.read.read_only clean in
-    let here = desk_stays g.S.Store c.args.conn.now c.loop-one.conn inv.2 mid s desk in
-    c.is_taken.ensures.read.fails clean (inv.1.commits_nothing.limit ∙ unlimited) s here failed
+    look_ended c.from_residual.result c.in_err-is_taken.field-0.0 c.from_residual.ensures.1 inv.1 inv.2 (look_of _ c.in_err-is_taken.ensures.read) (λ mid s desk fails on. on fails)
 
-pub returns-then-branch-clause-stays : goal.returns-then-branch-clause-stays
-returns-then-branch-clause-stays g c =
-    let read = c.is_taken.ensures.read.read_only in
-    stays_then g.S.Store c.args.conn.now c.loop-one.conn c.is_taken.new.conn c.loop-one.invariant.2
-    (left_from read) (stays_from c.in_ok-is_taken.ensures.read.read_only)
-
-pub returns-in_err-is_taken-clause-cause : goal.returns-in_err-is_taken-clause-cause
-returns-in_err-is_taken-clause-cause g c =
+pub returns-then-branch-clause-look : goal.returns-then-branch-clause-look
+returns-then-branch-clause-look g c =
     let inv = c.loop-one.invariant in
-    let read = c.is_taken.ensures.read.read_only in
-    left_clear g.S.Store c.args.conn.now c.loop-one.conn c.is_taken.new.conn c.from_residual.result c.in_err-is_taken.field-0.0 c.from_residual.ensures.1
-    inv.1 inv.2 (left_from read) c.in_err-is_taken.ensures.read.cause
+    let read = c.in_ok-is_taken.ensures.read.read_only in
+    look_well (left_then g.S.Store c.args.conn.now c.loop-one.conn c.is_taken.new.conn inv.1 inv.2 (left_from read)) (stays_then g.S.Store c.args.conn.now c.loop-one.conn c.is_taken.new.conn inv.2 (left_from read) (stays_from read)) (λ s fine. fine)
+
+pub returns-clause-look : goal.returns-clause-look
+returns-clause-look g c = look_well c.loop-one.invariant.1 c.loop-one.invariant.2 (λ s fine. fine)

@@ -9,5 +9,10 @@ returns-clause-put g c clean = if_put c.visit_released.result (λ reported s des
 pub returns-clause-part : goal.returns-clause-part
 returns-clause-part g c clean = if_cut c.visit_released.result (λ e reported s desk. cut_short g.W.Sink.held (released s) _ c.args.out.now e c.visit_released.new.filled (reported s desk)) (c.visit_released.ensures.halted clean)
 
-pub returns-clause-fault : goal.returns-clause-fault
-returns-clause-fault g c clean = if_cut c.visit_released.result (λ e reported s desk. copied_fault g.W.Sink.held (released s) _ c.args.out.now e c.visit_released.new.filled (reported s desk)) (c.visit_released.ensures.halted clean)
+pub returns-clause-read : goal.returns-clause-read
+returns-clause-read g c = record {
+  fault = λ clean. if_cut c.visit_released.result (λ e reported s desk. copied_fault g.W.Sink.held (released s) _ c.args.out.now e c.visit_released.new.filled (reported s desk)) (c.visit_released.ensures.halted clean);
+  fails = c.visit_released.ensures.fails;
+  cause = c.visit_released.ensures.cause;
+  read_only = c.visit_released.ensures.read_only;
+}

@@ -1,14 +1,13 @@
 use Rattle.std.proofs.Common.{[], subst, sym}
 use Rattle.tb_report.specs.Tables.{IsTableOf}
-use Rattle.std.proofs.lemmas.Result.{err_from_is_err_and}
 use Rattle.tb_conllu.specs.Text.{BlockText}
 use Rattle.tb_prefilter.specs.Prefiltered.{HasNeedles}
 use Rattle.tb_search.specs.Released.{released}
 use Rattle.tb_search.specs.Searched.{searched, IsValidText, Meets}
 use Rattle.tb_search.specs.Visited.{IsFault}
-use Rattle.tb_search.proofs.Walking.{err_is}
 use Rattle.tb_search.proofs.Seeking.{reads, asked_so, table_found, no_keys, tells, sought_fault}
-use Rattle.tb_reads.proofs.ReadOnly.{read_failed, read_none}
+use Rattle.tb_reads.proofs.ReadOnly.{read_none}
+use Rattle.tb_search.proofs.Ends.{text_failed, text_read}
 use Rattle.tb_search.proofs.search.count_released.Goals as goal
 
 pub returns-clause-answered : goal.returns-clause-answered
@@ -19,40 +18,16 @@ returns-clause-answered g c clean s desk =
     let all = table_found (released s) read (record { seeker = seeker; column = c.args.column }) c.new-table.result c.visit_released.new.visitor c.visit_released.new.filled (c.in_ok-visit_released.ensures.taken clean s desk) in
     (all.0, asked_so _ _ _ _ (searched s) all.0 asked.1 asked.0 all.1, all.2.1 [] (subst (λ t. IsTableOf [] t) (sym c.new-table.ensures) no_keys))
 
-pub returns-in_err-seeker-clause-fault : goal.returns-in_err-seeker-clause-fault
-returns-in_err-seeker-clause-fault g c clean =
-    let reported = err_from_is_err_and c.from_residual.result c.from_residual.ensures.1 in
-    err_is _ _ _ reported.0 reported.1 reported.2 (λ s desk. c.in_err-seeker.ensures.fault)
+pub returns-in_err-seeker-clause-read : goal.returns-in_err-seeker-clause-read
+returns-in_err-seeker-clause-read g c =
+    text_failed c.from_residual.result _ c.from_residual.ensures.1 (λ clean s desk. c.in_err-seeker.ensures.fault) (λ clean unlimited s desk. c.in_err-seeker.ensures.fails) (λ good clean unlimited s desk. c.in_err-seeker.ensures.cause) read_none
 
-pub returns-in_err-visit_released-clause-fault : goal.returns-in_err-visit_released-clause-fault
-returns-in_err-visit_released-clause-fault g c clean =
-    let reported = err_from_is_err_and c.from_residual-in_err-visit_released.result c.from_residual-in_err-visit_released.ensures.1 in
-    err_is _ _ _ reported.0 reported.1 reported.2 (λ s desk.
+pub returns-in_err-visit_released-clause-read : goal.returns-in_err-visit_released-clause-read
+returns-in_err-visit_released-clause-read g c =
+    let walk = c.in_err-visit_released.ensures in
+    text_failed c.from_residual-in_err-visit_released.result c.in_err-visit_released.field-0.0 c.from_residual-in_err-visit_released.ensures.1 (λ clean s desk.
     let read = reads s (c.revisions_read_back.ensures s desk.reachable.reached) in
-    sought_fault (λ v o t w q. Meets v.seeker.strategy v.seeker.searcher.asked t (λ found. tells v o found w q)) (λ v o t e q. HasNeedles v.seeker.searcher t × ((b : BlockText) → IsValidText b t → IsFault e)) (λ v o t e q stopped. stopped.1) (released s) read (record { seeker = c.in_ok-seeker.seeker; column = c.args.column }) c.new-table.result _ c.visit_released.new.filled (c.in_err-visit_released.ensures.halted clean s desk))
+    sought_fault (λ v o t w q. Meets v.seeker.strategy v.seeker.searcher.asked t (λ found. tells v o found w q)) (λ v o t e q. HasNeedles v.seeker.searcher t × ((b : BlockText) → IsValidText b t → IsFault e)) (λ v o t e q stopped. stopped.1) (released s) read (record { seeker = c.in_ok-seeker.seeker; column = c.args.column }) c.new-table.result _ c.visit_released.new.filled (c.in_err-visit_released.ensures.halted clean s desk)) walk.fails walk.cause walk.read_only
 
-pub returns-in_err-seeker-clause-fails : goal.returns-in_err-seeker-clause-fails
-returns-in_err-seeker-clause-fails g c clean unlimited =
-    let reported = err_from_is_err_and c.from_residual.result c.from_residual.ensures.1 in
-    err_is _ _ _ reported.0 reported.1 reported.2 (λ s desk. c.in_err-seeker.ensures.fails)
-
-pub returns-in_err-visit_released-clause-fails : goal.returns-in_err-visit_released-clause-fails
-returns-in_err-visit_released-clause-fails g c clean unlimited =
-    let reported = err_from_is_err_and c.from_residual-in_err-visit_released.result c.from_residual-in_err-visit_released.ensures.1 in
-    err_is _ _ _ reported.0 reported.1 reported.2 (λ s desk. c.in_err-visit_released.ensures.fails clean unlimited s desk)
-
-pub returns-in_err-seeker-clause-cause : goal.returns-in_err-seeker-clause-cause
-returns-in_err-seeker-clause-cause g c good clean unlimited =
-    let reported = err_from_is_err_and c.from_residual.result c.from_residual.ensures.1 in
-    err_is _ _ _ reported.0 reported.1 reported.2 (λ s desk. c.in_err-seeker.ensures.cause)
-
-pub returns-in_err-visit_released-clause-cause : goal.returns-in_err-visit_released-clause-cause
-returns-in_err-visit_released-clause-cause g c good clean unlimited =
-    let reported = err_from_is_err_and c.from_residual-in_err-visit_released.result c.from_residual-in_err-visit_released.ensures.1 in
-    err_is _ _ _ reported.0 reported.1 reported.2 (λ s desk. c.in_err-visit_released.ensures.cause good clean unlimited s desk)
-
-pub returns-in_err-seeker-clause-read_only : goal.returns-in_err-seeker-clause-read_only
-returns-in_err-seeker-clause-read_only g c = read_failed c.from_residual.result _ c.from_residual.ensures.1 read_none
-
-pub returns-in_err-visit_released-clause-read_only : goal.returns-in_err-visit_released-clause-read_only
-returns-in_err-visit_released-clause-read_only g c = read_failed c.from_residual-in_err-visit_released.result _ c.from_residual-in_err-visit_released.ensures.1 c.visit_released.ensures.read_only
+pub returns-clause-read : goal.returns-clause-read
+returns-clause-read g c = text_read c.in_ok-visit_released.ensures.read_only

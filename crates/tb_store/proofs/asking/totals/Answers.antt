@@ -4,7 +4,8 @@ use Rattle.tb_tables.specs.Values.{total_of}
 use Rattle.tb_tables.specs.declared.rows.TotalRow.{TotalRow}
 use Rattle.tb_reads.proofs.Shown.{if_ok}
 use Rattle.tb_store.proofs.SixTotals.{totals_stand}
-use Rattle.tb_refine.proofs.DeskReads.{read_made, read_stopped}
+use Rattle.tb_refine.proofs.DeskReads.{read_stopped}
+use Rattle.tb_commands.proofs.Fits.{read_fit}
 use Rattle.tb_store.proofs.asking.totals.Goals as goal
 
 pub returns-clause-answered : goal.returns-clause-answered
@@ -18,6 +19,6 @@ returns-in_err-rows-clause-read g c =
 
 pub returns-clause-read : goal.returns-clause-read
 returns-clause-read g c =
-    read_made c.six_totals.result c.in_ok-rows.ensures.read.read_only c.six_totals.ensures.never_refuses c.six_totals.ensures.output c.six_totals.ensures.cause (λ clean unlimited s desk bad.
+    read_fit c.six_totals.result c.in_ok-rows.ensures.read.read_only c.six_totals.ensures.fault (λ clean unlimited s desk bad.
     let same : c.as_slice.result.now ≡ c.in_ok-rows.rows.items = search rules in
     c.six_totals.ensures.six bad (ap length same ∙ sym (length-map c.in_ok-rows.rows.items total_of) ∙ ap length (c.in_ok-rows.ensures.answered clean s desk)))
