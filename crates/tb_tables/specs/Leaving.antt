@@ -49,14 +49,14 @@ KeepsRecordsOnErr g old new result = HasCleanDisk (state g new) → IsTrue (stat
 abbrev pub CommitsNothing : {S : Type 0} → Ghosts S → Held S → Held S → Type 0
 CommitsNothing g old new = Survives (state g old) (state g new) (λ _. (state g old).now.schema ≢ desk_schema)
 
--- in a transaction: a statement that succeeds does not end it
-abbrev pub StaysInside : {S X E : Type 0} → Ghosts S → Held S → Held S → Result X E → Type 0
-StaysInside g old new result = HasCleanDisk (state g new) → OnOk result (IsInside (state g old)
-    → IsInside (state g new))
-
 -- in a transaction: the store can go back to what was committed before it
 abbrev pub KeepsCommitted : {S : Type 0} → Ghosts S → Held S → Held S → Type 0
 KeepsCommitted g old new = HasCleanDisk (state g new) → KeepsCommit (state g old) (state g new)
+
+-- in a transaction: so it is after a statement, and one that succeeds does not end it
+abbrev pub StaysInside : {S X E : Type 0} → Ghosts S → Held S → Held S → Result X E → Type 0
+StaysInside g old new result = (HasCleanDisk (state g new) → OnOk result (IsInside (state g old)
+    → IsInside (state g new))) × KeepsCommitted g old new
 
 -- the tables of the connection store these records
 abbrev pub AreStoredIn : {S : Type 0} → Ghosts S → Held S → Tables → Type 0

@@ -9,7 +9,7 @@ ghost use Rattle.tb_tables.specs.Values.{move_of, total_of};
 ghost use Rattle.tb_tables.specs.Commands.{after_correction};
 ghost use Rattle.tb_tables.specs.Failing.{IsRoomFault, AreUnique, NeedsNoFaultOnRevisions, IsShort};
 ghost use Rattle.tb_tables.specs.Premises.{Follows};
-ghost use Rattle.tb_tables.specs.Leaving.{CrashesInto, FailsInside, FailsOn, KeepsCommitted, KeepsRecordsOnErr, Leads};
+ghost use Rattle.tb_tables.specs.Leaving.{CrashesInto, FailsInside, FailsOn, KeepsRecordsOnErr, Leads};
 ghost use Rattle.tb_tables.specs.Leaving.{AreStoredIn, StaysInside, Turns, BlamesNoDisk, WantsInside, WantsOn};
 
 use crate::recording::{MoveWrite, record};
@@ -30,20 +30,14 @@ fn correct<S: Alter>(
     ensures same_reference { tx.new.conn.ghost_name ≡ tx.old.conn.ghost_name }
     ensures ok { Turns S.Store tx.old.conn.now tx.new.conn.now result (λ d into. (s : Sentence)
         → slice_get d.sentences (number - 1) ≡ Some s → Follows d change.now
-        → AreStoredIn S.Store tx.old.conn.now d → into (after_correction d number s (record {
-          sent = number;
-          rev = rev;
-          who = who.now;
-          body = body.now;
-        }) words (move_of change.now.row) (total_of change.now.left) (total_of change.now.reached))) }
+        → AreStoredIn S.Store tx.old.conn.now d
+        → into (after_correction d number s (record { sent = number; rev = rev; who = who.now; body = body.now })
+        words (move_of change.now.row) (total_of change.now.left) (total_of change.now.reached))) }
     ensures fails { FailsInside IsRoomFault S.Store tx.old.conn.now tx.new.conn.now result (λ d fails. (s : Sentence)
         → slice_get d.sentences (number - 1) ≡ Some s → Follows d change.now
-        → AreStoredIn S.Store tx.old.conn.now d → AreUnique (with_revision d (record {
-          sent = number;
-          rev = rev;
-          who = who.now;
-          body = body.now;
-        })) → fails) }
+        → AreStoredIn S.Store tx.old.conn.now d
+        → AreUnique (with_revision d (record { sent = number; rev = rev; who = who.now; body = body.now }))
+        → fails) }
     ensures wants { WantsInside S.Store tx.old.conn.now tx.new.conn.now result (λ d wants.
         (s : Sentence) → slice_get d.sentences (number - 1) ≡ Some s → Follows d change.now
         → AreStoredIn S.Store tx.old.conn.now d
@@ -52,7 +46,6 @@ fn correct<S: Alter>(
         → HasRevisionRowids (state S.Store tx.old.conn.now) 1 → wants) }
     ensures cause { BlamesNoDisk NeedsNoFaultOnRevisions S.Store tx.old.conn.now tx.new.conn.now result }
     ensures inside { StaysInside S.Store tx.old.conn.now tx.new.conn.now result }
-    ensures keeps_committed { KeepsCommitted S.Store tx.old.conn.now tx.new.conn.now }
     ensures survives { Survives (state S.Store tx.old.conn.now) (state S.Store tx.new.conn.now) (λ _. ⊥) }
 {
     insert_revision(tx, number, rev, who, body)?;
@@ -82,12 +75,8 @@ pub fn write_correction<S: Alter>(
     requires row { 0 < number }
     ensures ok { Leads S.Store conn.old conn.new result (λ d into. (s : Sentence)
         → slice_get d.sentences (number - 1) ≡ Some s → Follows d change.now
-        → into (after_correction d number s (record {
-          sent = number;
-          rev = rev;
-          who = who.now;
-          body = body.now;
-        }) words (move_of change.now.row) (total_of change.now.left) (total_of change.now.reached))) }
+        → into (after_correction d number s (record { sent = number; rev = rev; who = who.now; body = body.now })
+        words (move_of change.now.row) (total_of change.now.left) (total_of change.now.reached))) }
     ensures fails { FailsOn IsRoomFault S.Store conn.old conn.new result (λ d fails. (s : Sentence)
         → slice_get d.sentences (number - 1) ≡ Some s → Follows d change.now
         → AreUnique (with_revision d (record { sent = number; rev = rev; who = who.now; body = body.now }))
@@ -101,12 +90,8 @@ pub fn write_correction<S: Alter>(
     ensures err { KeepsRecordsOnErr S.Store conn.old conn.new result }
     ensures crash { CrashesInto S.Store conn.old conn.new (λ d into. (s : Sentence)
         → slice_get d.sentences (number - 1) ≡ Some s → Follows d change.now
-        → into (after_correction d number s (record {
-          sent = number;
-          rev = rev;
-          who = who.now;
-          body = body.now;
-        }) words (move_of change.now.row) (total_of change.now.left) (total_of change.now.reached))) }
+        → into (after_correction d number s (record { sent = number; rev = rev; who = who.now; body = body.now })
+        words (move_of change.now.row) (total_of change.now.left) (total_of change.now.reached))) }
     ensures autocommit { conn.new.in_transaction ≡ false }
 {
     let mut tx = conn.transaction();

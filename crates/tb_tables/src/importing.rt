@@ -8,7 +8,7 @@ ghost use Rattle.tb_tables.specs.Values.{move_of, total_of};
 ghost use Rattle.tb_tables.specs.Commands.{NewSentenceRecord as NewSentenceRecord, with_item, with_items, after_import};
 ghost use Rattle.tb_tables.specs.Failing.{IsRoomFault, AreUnique, NeedsNoFaultOnRevisions, IsShort};
 ghost use Rattle.tb_tables.specs.Premises.{Follows, IsShortItem};
-ghost use Rattle.tb_tables.specs.Leaving.{CrashesInto, FailsInside, FailsOn, KeepsCommitted, KeepsRecordsOnErr, Leads};
+ghost use Rattle.tb_tables.specs.Leaving.{CrashesInto, FailsInside, FailsOn, KeepsRecordsOnErr, Leads};
 ghost use Rattle.tb_tables.specs.Leaving.{AreStoredIn, StaysInside, Turns, BlamesNoDisk, WantsInside, WantsOn};
 
 use crate::recording::{MoveWrite, record};
@@ -52,7 +52,6 @@ fn insert_item<S: Alter>(
         → HasRevisionRowids (state S.Store tx.old.conn.now) 1 → wants) }
     ensures cause { BlamesNoDisk NeedsNoFaultOnRevisions S.Store tx.old.conn.now tx.new.conn.now result }
     ensures inside { StaysInside S.Store tx.old.conn.now tx.new.conn.now result }
-    ensures keeps_committed { KeepsCommitted S.Store tx.old.conn.now tx.new.conn.now }
     ensures survives { Survives (state S.Store tx.old.conn.now) (state S.Store tx.new.conn.now) (λ _. ⊥) }
 {
     insert_sentence(tx, number, item.sent_id, batch, 1, item.words)?;
@@ -81,7 +80,6 @@ fn insert_items<S: Alter>(
         → HasRevisionRowids (state S.Store tx.old.conn.now) (length items.now) → wants) }
     ensures cause { BlamesNoDisk NeedsNoFaultOnRevisions S.Store tx.old.conn.now tx.new.conn.now result }
     ensures inside { StaysInside S.Store tx.old.conn.now tx.new.conn.now result }
-    ensures keeps_committed { KeepsCommitted S.Store tx.old.conn.now tx.new.conn.now }
     ensures survives { Survives (state S.Store tx.old.conn.now) (state S.Store tx.new.conn.now) (λ _. ⊥) }
 {
     let mut number = first;
@@ -121,7 +119,6 @@ fn insert_file<S: Alter>(
         → HasRevisionRowids (state S.Store tx.old.conn.now) (length items.now) → wants) }
     ensures cause { BlamesNoDisk NeedsNoFaultOnRevisions S.Store tx.old.conn.now tx.new.conn.now result }
     ensures inside { StaysInside S.Store tx.old.conn.now tx.new.conn.now result }
-    ensures keeps_committed { KeepsCommitted S.Store tx.old.conn.now tx.new.conn.now }
     ensures survives { Survives (state S.Store tx.old.conn.now) (state S.Store tx.new.conn.now) (λ _. ⊥) }
 {
     insert_batch(tx, number, name, 1, "")?;
@@ -158,7 +155,6 @@ fn import<S: Alter>(
         → HasRevisionRowids (state S.Store tx.old.conn.now) (length items.now) → wants) }
     ensures cause { BlamesNoDisk NeedsNoFaultOnRevisions S.Store tx.old.conn.now tx.new.conn.now result }
     ensures inside { StaysInside S.Store tx.old.conn.now tx.new.conn.now result }
-    ensures keeps_committed { KeepsCommitted S.Store tx.old.conn.now tx.new.conn.now }
     ensures survives { Survives (state S.Store tx.old.conn.now) (state S.Store tx.new.conn.now) (λ _. ⊥) }
 {
     insert_file(tx, number, first, name, who, items)?;

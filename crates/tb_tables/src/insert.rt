@@ -8,7 +8,7 @@ ghost use Rattle.tb_tables.specs.Changes.{HasRevisionRowids};
 ghost use Rattle.tb_tables.specs.Failing.{IsStoreFault, IsRoomFault, Lacks, AreUnique, NeedsNoFault, IsShort};
 ghost use Rattle.tb_tables.specs.Failing.{NeedsNoFaultOnRevisions};
 ghost use Rattle.tb_tables.specs.Values.{move_of};
-ghost use Rattle.tb_tables.specs.Leaving.{BlamesNoDisk, FailsInside, KeepsCommitted, AreStoredIn, StaysInside, Turns};
+ghost use Rattle.tb_tables.specs.Leaving.{BlamesNoDisk, FailsInside, AreStoredIn, StaysInside, Turns};
 ghost use Rattle.tb_tables.specs.Leaving.{WantsInside};
 
 use crate::rows::MoveRow;
@@ -34,7 +34,6 @@ pub fn insert_batch<S: Alter>(
         → IsShort name.now → IsShort worker.now → wants) }
     ensures cause { BlamesNoDisk NeedsNoFault S.Store tx.old.conn.now tx.new.conn.now result }
     ensures inside { StaysInside S.Store tx.old.conn.now tx.new.conn.now result }
-    ensures keeps_committed { KeepsCommitted S.Store tx.old.conn.now tx.new.conn.now }
     ensures survives { Survives (state S.Store tx.old.conn.now) (state S.Store tx.new.conn.now) (λ _. ⊥) }
 {
     tx.execute(
@@ -66,7 +65,6 @@ pub fn insert_sentence<S: Alter>(
         → IsShort sent_id.now → wants) }
     ensures cause { BlamesNoDisk NeedsNoFault S.Store tx.old.conn.now tx.new.conn.now result }
     ensures inside { StaysInside S.Store tx.old.conn.now tx.new.conn.now result }
-    ensures keeps_committed { KeepsCommitted S.Store tx.old.conn.now tx.new.conn.now }
     ensures survives { Survives (state S.Store tx.old.conn.now) (state S.Store tx.new.conn.now) (λ _. ⊥) }
 {
     tx.execute(
@@ -102,19 +100,15 @@ pub fn insert_revision<S: Alter>(
     ensures ok { Turns S.Store tx.old.conn.now tx.new.conn.now result (λ d into.
         into (with_revision d (record { sent = sent; rev = rev; who = who.now; body = body.now }))) }
     ensures fails { FailsInside IsRoomFault S.Store tx.old.conn.now tx.new.conn.now result (λ d fails.
-        AreStoredIn S.Store tx.old.conn.now d → AreUnique (with_revision d (record {
-          sent = sent;
-          rev = rev;
-          who = who.now;
-          body = body.now;
-        })) → fails) }
+        AreStoredIn S.Store tx.old.conn.now d
+        → AreUnique (with_revision d (record { sent = sent; rev = rev; who = who.now; body = body.now }))
+        → fails) }
     ensures wants { WantsInside S.Store tx.old.conn.now tx.new.conn.now result (λ d wants.
         AreStoredIn S.Store tx.old.conn.now d
         → AreUnique (with_revision d (record { sent = sent; rev = rev; who = who.now; body = body.now }))
         → IsShort who.now → IsShort body.now → HasRevisionRowids (state S.Store tx.old.conn.now) 1 → wants) }
     ensures cause { BlamesNoDisk NeedsNoFaultOnRevisions S.Store tx.old.conn.now tx.new.conn.now result }
     ensures inside { StaysInside S.Store tx.old.conn.now tx.new.conn.now result }
-    ensures keeps_committed { KeepsCommitted S.Store tx.old.conn.now tx.new.conn.now }
     ensures survives { Survives (state S.Store tx.old.conn.now) (state S.Store tx.new.conn.now) (λ _. ⊥) }
 {
     match tx.execute(
@@ -138,7 +132,6 @@ pub fn insert_move<S: Alter>(tx: &mut Transaction<'_, S>, no: u32, m: &MoveRow) 
         → AreUnique d → IsShort (move_of m.now).who → wants) }
     ensures cause { BlamesNoDisk NeedsNoFault S.Store tx.old.conn.now tx.new.conn.now result }
     ensures inside { StaysInside S.Store tx.old.conn.now tx.new.conn.now result }
-    ensures keeps_committed { KeepsCommitted S.Store tx.old.conn.now tx.new.conn.now }
     ensures survives { Survives (state S.Store tx.old.conn.now) (state S.Store tx.new.conn.now) (λ _. ⊥) }
 {
     tx.execute(
@@ -169,7 +162,6 @@ pub fn insert_pulled<S: Alter>(tx: &mut Transaction<'_, S>, sent: u32) -> Result
         AreStoredIn S.Store tx.old.conn.now d → Lacks d.pulled sent → AreUnique d → wants) }
     ensures cause { BlamesNoDisk NeedsNoFault S.Store tx.old.conn.now tx.new.conn.now result }
     ensures inside { StaysInside S.Store tx.old.conn.now tx.new.conn.now result }
-    ensures keeps_committed { KeepsCommitted S.Store tx.old.conn.now tx.new.conn.now }
     ensures survives { Survives (state S.Store tx.old.conn.now) (state S.Store tx.new.conn.now) (λ _. ⊥) }
 {
     tx.execute("INSERT INTO pulled(sent) VALUES (?1)", params![sent])?;

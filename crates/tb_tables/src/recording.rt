@@ -7,7 +7,7 @@ ghost use Rattle.tb_tables.specs.Values.{move_of, total_of};
 ghost use Rattle.tb_tables.specs.Commands.{with_total, recorded};
 ghost use Rattle.tb_tables.specs.Failing.{IsStoreFault, AreUnique, NeedsNoFault, IsShort};
 ghost use Rattle.tb_tables.specs.Premises.{Follows};
-ghost use Rattle.tb_tables.specs.Leaving.{FailsInside, KeepsCommitted, AreStoredIn, StaysInside, Turns, BlamesNoDisk};
+ghost use Rattle.tb_tables.specs.Leaving.{FailsInside, AreStoredIn, StaysInside, Turns, BlamesNoDisk};
 ghost use Rattle.tb_tables.specs.Leaving.{WantsInside};
 
 use crate::{MoveRow, TotalRow, insert_move, update_total};
@@ -41,7 +41,6 @@ fn write_total<S: Alter>(
         AreStoredIn S.Store tx.old.conn.now d → AreUnique d → wants) }
     ensures cause { BlamesNoDisk NeedsNoFault S.Store tx.old.conn.now tx.new.conn.now result }
     ensures inside { StaysInside S.Store tx.old.conn.now tx.new.conn.now result }
-    ensures keeps_committed { KeepsCommitted S.Store tx.old.conn.now tx.new.conn.now }
     ensures survives { Survives (state S.Store tx.old.conn.now) (state S.Store tx.new.conn.now) (λ _. ⊥) }
 {
     if in_state == 0 {
@@ -64,7 +63,6 @@ pub(crate) fn record<S: Alter>(tx: &mut Transaction<'_, S>, change: &MoveWrite) 
         → IsShort (move_of change.now.row).who → wants) }
     ensures cause { BlamesNoDisk NeedsNoFault S.Store tx.old.conn.now tx.new.conn.now result }
     ensures inside { StaysInside S.Store tx.old.conn.now tx.new.conn.now result }
-    ensures keeps_committed { KeepsCommitted S.Store tx.old.conn.now tx.new.conn.now }
     ensures survives { Survives (state S.Store tx.old.conn.now) (state S.Store tx.new.conn.now) (λ _. ⊥) }
 {
     insert_move(tx, change.number, &change.row)?;

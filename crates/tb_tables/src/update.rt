@@ -6,7 +6,7 @@ ghost use Rattle.sqlite.specs.Held.{state};
 ghost use Rattle.tb_tables.specs.Records.{Batch, Sentence, Total};
 ghost use Rattle.tb_tables.specs.Changes.{batch_replaced, sentence_replaced, total_replaced, without_pulled};
 ghost use Rattle.tb_tables.specs.Failing.{IsShort, IsStoreFault, AreUnique, NeedsNoFault};
-ghost use Rattle.tb_tables.specs.Leaving.{BlamesNoDisk, FailsInside, KeepsCommitted, AreStoredIn, StaysInside, Turns};
+ghost use Rattle.tb_tables.specs.Leaving.{BlamesNoDisk, FailsInside, AreStoredIn, StaysInside, Turns};
 ghost use Rattle.tb_tables.specs.Leaving.{WantsInside};
 
 use sqlite::{Alter, Error, Transaction, params};
@@ -31,7 +31,6 @@ pub fn update_batch<S: Alter>(
         → ((b : Batch) → slice_get d.batches (no - 1) ≡ Some b → IsShort b.name) → wants) }
     ensures cause { BlamesNoDisk NeedsNoFault S.Store tx.old.conn.now tx.new.conn.now result }
     ensures inside { StaysInside S.Store tx.old.conn.now tx.new.conn.now result }
-    ensures keeps_committed { KeepsCommitted S.Store tx.old.conn.now tx.new.conn.now }
     ensures survives { Survives (state S.Store tx.old.conn.now) (state S.Store tx.new.conn.now) (λ _. ⊥) }
 {
     tx.execute(
@@ -61,7 +60,6 @@ pub fn update_sentence<S: Alter>(
         → ((s : Sentence) → slice_get d.sentences (no - 1) ≡ Some s → IsShort s.sent_id) → wants) }
     ensures cause { BlamesNoDisk NeedsNoFault S.Store tx.old.conn.now tx.new.conn.now result }
     ensures inside { StaysInside S.Store tx.old.conn.now tx.new.conn.now result }
-    ensures keeps_committed { KeepsCommitted S.Store tx.old.conn.now tx.new.conn.now }
     ensures survives { Survives (state S.Store tx.old.conn.now) (state S.Store tx.new.conn.now) (λ _. ⊥) }
 {
     tx.execute(
@@ -89,7 +87,6 @@ pub fn update_total<S: Alter>(
         AreStoredIn S.Store tx.old.conn.now d → AreUnique d → wants) }
     ensures cause { BlamesNoDisk NeedsNoFault S.Store tx.old.conn.now tx.new.conn.now result }
     ensures inside { StaysInside S.Store tx.old.conn.now tx.new.conn.now result }
-    ensures keeps_committed { KeepsCommitted S.Store tx.old.conn.now tx.new.conn.now }
     ensures survives { Survives (state S.Store tx.old.conn.now) (state S.Store tx.new.conn.now) (λ _. ⊥) }
 {
     tx.execute(
@@ -110,7 +107,6 @@ pub fn delete_pulled<S: Alter>(tx: &mut Transaction<'_, S>, sent: u32) -> Result
         AreStoredIn S.Store tx.old.conn.now d → AreUnique d → wants) }
     ensures cause { BlamesNoDisk NeedsNoFault S.Store tx.old.conn.now tx.new.conn.now result }
     ensures inside { StaysInside S.Store tx.old.conn.now tx.new.conn.now result }
-    ensures keeps_committed { KeepsCommitted S.Store tx.old.conn.now tx.new.conn.now }
     ensures survives { Survives (state S.Store tx.old.conn.now) (state S.Store tx.new.conn.now) (λ _. ⊥) }
 {
     tx.execute("DELETE FROM pulled WHERE sent = ?1", params![sent])?;

@@ -39,7 +39,7 @@ returns-in_err-commit-clause-err g c clean is_open = on_err c.from_residual-in_e
     let late : HasCleanDisk (state g.S.Store end) = search rules in
     let opened = subst (λ h. IsTrue (state g.S.Store h).is_open) (sym same) is_open in
     let was : HasCleanDisk (state g.S.Store last) = omega (arith, c.commit.ensures.survives.clean) in
-    subst (λ h. Holds g.S.Store h d) same (failed_holds g.S.Store old begun last end c.transaction-tx.ensures.begun _ d holds (c.correct.ensures.keeps_committed was) (c.in_ok-correct.ensures.inside was) c.commit.ensures.ended opened (c.in_err-commit.ensures.err late)))
+    subst (λ h. Holds g.S.Store h d) same (failed_holds g.S.Store old begun last end c.transaction-tx.ensures.begun _ d holds (c.correct.ensures.inside.1 was) (c.in_ok-correct.ensures.inside.0 was) c.commit.ensures.ended opened (c.in_err-commit.ensures.err late)))
 
 pub returns-clause-crash : goal.returns-clause-crash
 returns-clause-crash g c =
@@ -129,6 +129,6 @@ returns-in_err-commit-clause-wants g c good clean unlimited d holds s is follows
     let was : HasCleanDisk (state g.S.Store last) = omega (arith, c.commit.ensures.survives.clean) in
     let whole = subst (IsFaultless g.S.Store old) (sym same) good in
     let start = begins_inside g.S.Store old begun last last c.transaction-tx.ensures.begun d holds in
-    let there = c.in_ok-correct.ensures.inside was start.0 in
+    let there = c.in_ok-correct.ensures.inside.0 was start.0 in
     commit_wants g.S.Store old begun last end c.transaction-tx.ensures.begun IsWant c.from_residual-in_err-commit.result c.in_err-commit.field-0.0 c.from_residual-in_err-commit.ensures.1
     there.begun c.correct.ensures.survives c.commit.ensures.survives (c.in_err-commit.ensures.err late) late whole

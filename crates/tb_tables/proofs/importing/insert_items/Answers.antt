@@ -33,10 +33,10 @@ loop-item-preserved g c =
       λ clean.
           let was : HasCleanDisk now = omega (arith, one.survives.clean) in
           let so = inv.3 was in (
-            kept_then old now new so.0 (one.keeps_committed clean),
+            kept_then old now new so.0 (one.inside.1 clean),
             λ inside.
                 let far = so.1 inside in (
-                  c.in_ok-insert_item.ensures.inside clean far.0,
+                  c.in_ok-insert_item.ensures.inside.0 clean far.0,
                   λ d first.
                       let done = with_items c.args.batch c.args.who.now d (take c.loop-item.item-index c.args.items.now) in
                       let went = far.1 d first in

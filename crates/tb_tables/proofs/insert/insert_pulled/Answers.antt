@@ -19,18 +19,20 @@ returns-clause-ok g c clean inside d =
     record { inside = record { begun = ran.1.mode; schema = puts.sets.schema }; committed = ran.1.committed_is; stands = stands_pulled old new d c.args.sent puts; rowids = rowids_stay old new 9 _ puts.sets (λ e. cc) d }
 
 pub returns-clause-inside : goal.returns-clause-inside
-returns-clause-inside g c clean inside =
-    let old = state g.S.Store c.args.tx.now.conn.now in
-    let new = state g.S.Store c.execute.new.self.conn.now in
-    let ran = c.in_ok-execute.ensures.runs clean inside.begun in
-    let puts = puts_pulled old new c.args.sent c.in_ok-execute.field-0 inside.schema (rw c.params-to_sql.ensures at ran.0) in
-    record { begun = ran.1.mode; schema = puts.sets.schema }
+returns-clause-inside g c = (
+  λ clean inside.
+      let old = state g.S.Store c.args.tx.now.conn.now in
+      let new = state g.S.Store c.execute.new.self.conn.now in
+      let ran = c.in_ok-execute.ensures.runs clean inside.begun in
+      let puts = puts_pulled old new c.args.sent c.in_ok-execute.field-0 inside.schema (rw c.params-to_sql.ensures at ran.0) in
+      record { begun = ran.1.mode; schema = puts.sets.schema },
+  λ clean. kept_by g.S.Store _ _ c.args.tx.now.conn.now c.execute.new.self.conn.now c.execute.ensures.ended (c.execute.ensures.runs clean),
+)
 
-pub returns-clause-keeps_committed : goal.returns-clause-keeps_committed
-returns-clause-keeps_committed g c clean = kept_by g.S.Store _ _ c.args.tx.now.conn.now c.execute.new.self.conn.now c.execute.ensures.ended (c.execute.ensures.runs clean)
-
-pub returns-in_err-execute-clause-keeps_committed : goal.returns-in_err-execute-clause-keeps_committed
-returns-in_err-execute-clause-keeps_committed g c clean = kept_by g.S.Store _ _ c.args.tx.now.conn.now c.execute.new.self.conn.now c.execute.ensures.ended (c.execute.ensures.runs clean)
+pub returns-in_err-execute-clause-inside : goal.returns-in_err-execute-clause-inside
+returns-in_err-execute-clause-inside g c =
+    let reported = err_from_is_err_and c.from_residual.result c.from_residual.ensures.1 in
+    (λ clean. rw reported.1 tt, λ clean. kept_by g.S.Store _ _ c.args.tx.now.conn.now c.execute.new.self.conn.now c.execute.ensures.ended (c.execute.ensures.runs clean))
 
 pub returns-in_err-execute-clause-fails : goal.returns-in_err-execute-clause-fails
 returns-in_err-execute-clause-fails g c clean unlimited inside d stands lacks unique =

@@ -18,19 +18,19 @@ returns-in-Ok-clause-ok g c clean inside d =
     record { inside = record { begun = ran.1.mode; schema = puts.sets.schema }; committed = ran.1.committed_is; stands = stands_revision old new d x puts; rowids = rowids_left old new d x puts }
 
 pub returns-in-Ok-clause-inside : goal.returns-in-Ok-clause-inside
-returns-in-Ok-clause-inside g c clean inside =
-    let old = state g.S.Store c.args.tx.now.conn.now in
-    let new = state g.S.Store c.execute.new.self.conn.now in
-    let ran = c.in-Ok.ensures.runs clean inside.begun in
-    let x : Revision = record { sent = c.args.sent; rev = c.args.rev; who = c.args.who.now; body = c.args.body.now } in
-    let puts = puts_revision old new x c.in-Ok.field-0 inside.schema (rw (c.params-to_sql.ensures, c.params-to_sql-2.ensures, c.params-to_sql-3.ensures, c.params-to_sql-4.ensures) at ran.0) in
-    record { begun = ran.1.mode; schema = puts.sets.schema }
+returns-in-Ok-clause-inside g c = (
+  λ clean inside.
+      let old = state g.S.Store c.args.tx.now.conn.now in
+      let new = state g.S.Store c.execute.new.self.conn.now in
+      let ran = c.in-Ok.ensures.runs clean inside.begun in
+      let x : Revision = record { sent = c.args.sent; rev = c.args.rev; who = c.args.who.now; body = c.args.body.now } in
+      let puts = puts_revision old new x c.in-Ok.field-0 inside.schema (rw (c.params-to_sql.ensures, c.params-to_sql-2.ensures, c.params-to_sql-3.ensures, c.params-to_sql-4.ensures) at ran.0) in
+      record { begun = ran.1.mode; schema = puts.sets.schema },
+  λ clean. kept_by g.S.Store _ _ c.args.tx.now.conn.now c.execute.new.self.conn.now c.execute.ensures.ended (c.execute.ensures.runs clean),
+)
 
-pub returns-in-Ok-clause-keeps_committed : goal.returns-in-Ok-clause-keeps_committed
-returns-in-Ok-clause-keeps_committed g c clean = kept_by g.S.Store _ _ c.args.tx.now.conn.now c.execute.new.self.conn.now c.execute.ensures.ended (c.execute.ensures.runs clean)
-
-pub returns-in-Err-clause-keeps_committed : goal.returns-in-Err-clause-keeps_committed
-returns-in-Err-clause-keeps_committed g c clean = kept_by g.S.Store _ _ c.args.tx.now.conn.now c.execute.new.self.conn.now c.execute.ensures.ended (c.execute.ensures.runs clean)
+pub returns-in-Err-clause-inside : goal.returns-in-Err-clause-inside
+returns-in-Err-clause-inside g c = (λ clean. tt, λ clean. kept_by g.S.Store _ _ c.args.tx.now.conn.now c.execute.new.self.conn.now c.execute.ensures.ended (c.execute.ensures.runs clean))
 
 pub returns-in-Err-clause-fails : goal.returns-in-Err-clause-fails
 returns-in-Err-clause-fails g c clean unlimited inside d stands unique =

@@ -21,19 +21,21 @@ returns-clause-ok g c clean inside d at =
     record { inside = record { begun = ran.1.mode; schema = puts.sets.schema }; committed = ran.1.committed_is; stands = stands_sentence old new d c.args.no x puts at; rowids = rowids_stay old new 3 _ puts.sets (λ e. cc) d }
 
 pub returns-clause-inside : goal.returns-clause-inside
-returns-clause-inside g c clean inside =
-    let old = state g.S.Store c.args.tx.now.conn.now in
-    let new = state g.S.Store c.execute.new.self.conn.now in
-    let ran = c.in_ok-execute.ensures.runs clean inside.begun in
-    let x : Sentence = record { sent_id = c.args.sent_id.now; batch = c.args.batch; rev = c.args.rev; words = c.args.words } in
-    let puts = puts_sentence old new c.args.no x c.in_ok-execute.field-0 inside.schema (rw (c.params-to_sql.ensures, c.params-to_sql-2.ensures, c.params-to_sql-3.ensures, c.params-to_sql-4.ensures, c.params-to_sql-5.ensures) at ran.0) in
-    record { begun = ran.1.mode; schema = puts.sets.schema }
+returns-clause-inside g c = (
+  λ clean inside.
+      let old = state g.S.Store c.args.tx.now.conn.now in
+      let new = state g.S.Store c.execute.new.self.conn.now in
+      let ran = c.in_ok-execute.ensures.runs clean inside.begun in
+      let x : Sentence = record { sent_id = c.args.sent_id.now; batch = c.args.batch; rev = c.args.rev; words = c.args.words } in
+      let puts = puts_sentence old new c.args.no x c.in_ok-execute.field-0 inside.schema (rw (c.params-to_sql.ensures, c.params-to_sql-2.ensures, c.params-to_sql-3.ensures, c.params-to_sql-4.ensures, c.params-to_sql-5.ensures) at ran.0) in
+      record { begun = ran.1.mode; schema = puts.sets.schema },
+  λ clean. kept_by g.S.Store _ _ c.args.tx.now.conn.now c.execute.new.self.conn.now c.execute.ensures.ended (c.execute.ensures.runs clean),
+)
 
-pub returns-clause-keeps_committed : goal.returns-clause-keeps_committed
-returns-clause-keeps_committed g c clean = kept_by g.S.Store _ _ c.args.tx.now.conn.now c.execute.new.self.conn.now c.execute.ensures.ended (c.execute.ensures.runs clean)
-
-pub returns-in_err-execute-clause-keeps_committed : goal.returns-in_err-execute-clause-keeps_committed
-returns-in_err-execute-clause-keeps_committed g c clean = kept_by g.S.Store _ _ c.args.tx.now.conn.now c.execute.new.self.conn.now c.execute.ensures.ended (c.execute.ensures.runs clean)
+pub returns-in_err-execute-clause-inside : goal.returns-in_err-execute-clause-inside
+returns-in_err-execute-clause-inside g c =
+    let reported = err_from_is_err_and c.from_residual.result c.from_residual.ensures.1 in
+    (λ clean. rw reported.1 tt, λ clean. kept_by g.S.Store _ _ c.args.tx.now.conn.now c.execute.new.self.conn.now c.execute.ensures.ended (c.execute.ensures.runs clean))
 
 pub returns-in_err-execute-clause-fails : goal.returns-in_err-execute-clause-fails
 returns-in_err-execute-clause-fails g c clean unlimited inside d stands next unique =

@@ -27,15 +27,17 @@ returns-clause-ok g c clean inside d t is holds =
     }
 
 pub returns-clause-inside : goal.returns-clause-inside
-returns-clause-inside g c clean inside =
-    let ran = c.in_ok-execute.ensures.runs clean inside.begun in
-    record { begun = ran.1.mode; schema = updated_total (state g.S.Store c.args.tx.now.conn.now) (state g.S.Store c.execute.new.self.conn.now) _ c.in_ok-execute.field-0 inside.schema ran.0 }
+returns-clause-inside g c = (
+  λ clean inside.
+      let ran = c.in_ok-execute.ensures.runs clean inside.begun in
+      record { begun = ran.1.mode; schema = updated_total (state g.S.Store c.args.tx.now.conn.now) (state g.S.Store c.execute.new.self.conn.now) _ c.in_ok-execute.field-0 inside.schema ran.0 },
+  λ clean. kept_by g.S.Store _ _ c.args.tx.now.conn.now c.execute.new.self.conn.now c.execute.ensures.ended (c.execute.ensures.runs clean),
+)
 
-pub returns-clause-keeps_committed : goal.returns-clause-keeps_committed
-returns-clause-keeps_committed g c clean = kept_by g.S.Store _ _ c.args.tx.now.conn.now c.execute.new.self.conn.now c.execute.ensures.ended (c.execute.ensures.runs clean)
-
-pub returns-in_err-execute-clause-keeps_committed : goal.returns-in_err-execute-clause-keeps_committed
-returns-in_err-execute-clause-keeps_committed g c clean = kept_by g.S.Store _ _ c.args.tx.now.conn.now c.execute.new.self.conn.now c.execute.ensures.ended (c.execute.ensures.runs clean)
+pub returns-in_err-execute-clause-inside : goal.returns-in_err-execute-clause-inside
+returns-in_err-execute-clause-inside g c =
+    let reported = err_from_is_err_and c.from_residual.result c.from_residual.ensures.1 in
+    (λ clean. rw reported.1 tt, λ clean. kept_by g.S.Store _ _ c.args.tx.now.conn.now c.execute.new.self.conn.now c.execute.ensures.ended (c.execute.ensures.runs clean))
 
 pub returns-in_err-execute-clause-fails : goal.returns-in_err-execute-clause-fails
 returns-in_err-execute-clause-fails g c clean unlimited inside d stands unique =
