@@ -1,10 +1,16 @@
+mod CircleSteps
 mod Counted
 mod Cuts
+mod FeatureOrder
+mod FeatureParts
 mod FirstFaults
 mod Keys
+mod NodeCounts
 mod Numbers
 mod Orders
+mod PairSteps
 mod Parts
+mod RuleSteps
 mod Steps
 mod Trimming
 mod Walked

@@ -2,18 +2,20 @@
 -- What is said of a sentence that breaks a rule: each sentence with what makes it true.
 -- CoNLL-U format page, "Words, Tokens and Empty Nodes" and "Syntactic Annotation"; UD v2 guidelines.
 use Rattle.std.specs.Prelude.{◌≡◌, ◌≢◌, ℕ, ◌+◌, ◌-◌, ◌^◌, ◌<◌, ◌≤◌, ◌⊎◌, List, drop, length, min, None, Option, option_map, Bool}
-use Rattle.std.specs.Prelude.{true, false, is_some, nat_le, count_by, position, IsSomeAnd, MatchOption}
+use Rattle.std.specs.Prelude.{true, false, is_some, nat_le, count_by, position, IsSomeAnd, MatchOption, slice_index_or, Some, take}
 use Rattle.std.specs.List.{list_any, slice_get}
 use Rattle.tb_conllu.specs.declared.id.LineId.{LineId}
 use Rattle.tb_conllu.specs.declared.id.LineId.TheVariants.{Word, Span, Empty}
-use Rattle.tb_conllu.specs.Text.{RowText}
-use Rattle.tb_conllu.specs.Words.{is_word}
+use Rattle.tb_conllu.specs.Text.{BlockText, RowText, fields_of}
+use Rattle.tb_conllu.specs.Words.{is_word, words_of}
 use Rattle.tb_fields.specs.Blank.{is_blank}
 use Rattle.tb_fields.specs.Relations.{is_relation}
 use Rattle.tb_fields.specs.Tags.{is_universal_tag}
 use Rattle.tb_rules.specs.Tree.{is_root}
-use Rattle.tb_words.specs.Columns.{first_filled}
+use Rattle.tb_words.specs.Columns.{first_filled, value_bytes}
+use Rattle.tb_words.specs.FeatureFaults.{SaysFeature}
 use Rattle.tb_words.specs.FileSentences.{comment_line_of, row_line_of}
+use Rattle.tb_words.specs.PairFaults.{SaysDeps}
 use Rattle.tb_words.specs.declared.findings.Detail.TheVariants.{And, Words}
 use Rattle.tb_words.specs.declared.findings.Finding.{Finding}
 use Rattle.tb_words.specs.declared.places.Placed.{Placed}
@@ -111,6 +113,31 @@ SaysNode row column sentence =
     ((column ≡ 6) × (sentence ≡ NODE_TREE.now) × (is_some row.head ≡ true))
     ⊎ ((column ≡ 7) × (sentence ≡ NODE_TREE.now) × (is_some row.head ≡ false) × (is_blank row.deprel ≡ false))
     ⊎ ((column ≡ 3) × (sentence ≡ NODE_UPOS.now) × (is_some row.head ≡ false) × (is_blank row.deprel ≡ true))
+
+-- ---- one row, by its rule
+
+-- the column, and what is in it
+abbrev pub ShowsField : RowText → Finding → Type 0
+ShowsField row found = IsSomeAnd found.column (λ column. IsSomeAnd found.value (λ v.
+    value_bytes v ≡ slice_index_or (fields_of row) column row.misc))
+
+-- what is wrong with a row after others by one of rules 4 to 8, in a sentence
+abbrev pub SaysRow : BlockText → ℕ → List RowText → RowText → Finding → Type 0
+SaysRow block rule before row found =
+    (rule ≡ 4 → IsSomeAnd found.column (λ column. SaysWord row (words_of block) column found.sentence.now))
+    × (rule ≡ 5 → IsSomeAnd found.column (λ column. SaysRange before row (words_of block) column found.sentence.now))
+    × (rule ≡ 6 → IsSomeAnd found.column (λ column. SaysNode row column found.sentence.now))
+    × (rule ≡ 7 → (found.column ≡ Some 5)
+    × IsSomeAnd found.value (λ v. SaysFeature row.feats (value_bytes v) found.sentence.now))
+    × (rule ≡ 8 → (found.column ≡ Some 8)
+    × IsSomeAnd found.value (λ v. SaysDeps block.rows row.deps (value_bytes v) found.sentence.now))
+    × (rule ≤ 6 → ShowsField row found)
+
+-- so of the row at a place, which is told by its line and its ID
+abbrev pub SaysRowAt : Placed → ℕ → ℕ → Finding → Type 0
+SaysRowAt placed rule at found =
+    (found.line ≡ row_line_of placed at) × IsSomeAnd (slice_get placed.block.rows at) (λ row.
+    (found.id ≡ Some row.id) × SaysRow placed.block rule (take at placed.block.rows) row found)
 
 -- ---- whole sentences
 

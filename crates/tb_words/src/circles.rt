@@ -1,23 +1,34 @@
 //! Words that hang from one another: cycles of HEADs.
 
-ghost use Rattle.std.specs.Prelude.{◌≡◌, None, IfSome};
-ghost use Rattle.tb_words.specs.Circles.{IsLeft, NoneIsLeft, head_after, steps_from};
+ghost use Rattle.std.specs.Prelude.{◌≡◌, ◌++◌, codes, decimal, None, IfOk, IfSome, OnOk};
+ghost use Rattle.std.specs.String.{string_bytes};
+ghost use Rattle.tb_rules.specs.Tree.{head_number};
+ghost use Rattle.tb_words.specs.Circles.{IsCircleText, IsLeft, NoneIsLeft, head_after, heads_in, steps_from};
 
-use std::alloc::Global;
-use tb_conllu::{LineId, RowRef};
+use std::alloc::{AllocError, Global};
+use tb_conllu::{RowRef, is_word_row};
 
 /// The most words of a circle that are shown.
 const MOST: usize = 8;
 
-/// The HEADs of the words of a sentence, in order.
-pub(crate) fn heads_of(alloc: Global, rows: &[RowRef<'_>]) -> Option<Vec<u32>> {
-    let mut heads = Vec::new(alloc);
-    for row in rows {
-        if let LineId::Word(_) = row.id {
-            heads.push(row.head.unwrap_or(0)).ok()?;
-        }
+/// The HEAD of a row; 0 where it has none.
+fn head_or_root(row: &RowRef<'_>) -> u32
+    ensures { result ≡ head_number row.now.head }
+{
+    match row.head {
+        Some(head) => head,
+        None => 0,
     }
-    Some(heads)
+}
+
+/// The HEADs of the words of a sentence, in order.
+pub(crate) fn heads_of(alloc: Global, rows: &[RowRef<'_>]) -> Result<Vec<u32>, AllocError>
+    ensures { IfOk result (λ heads. heads.items ≡ heads_in rows.now) }
+{
+    rows.iter()
+        .filter(|row| is_word_row(*row))
+        .map(|row| head_or_root(row))
+        .collect(alloc)
 }
 
 /// The HEAD of a word; 0 for a number that no word has.
@@ -53,17 +64,27 @@ pub(crate) fn on_circle(heads: &[u32]) -> Option<u32>
     None
 }
 
+/// Adds the word that a step leads to.
+fn push_step(alloc: Global, text: &mut String, word: u32) -> Result<(), AllocError>
+    ensures { OnOk result (string_bytes text.new ≡ string_bytes text.old ++ (codes " -> " ++ decimal word)) }
+{
+    let step = format!(in alloc; " -> {word}")?;
+    text.push_str(step.as_str())
+}
+
 /// The circle, from this word on.
-pub(crate) fn circle_text(alloc: Global, heads: &[u32], word: u32) -> Option<String> {
-    let mut text = format!(in alloc; "{word}").ok()?;
+pub(crate) fn circle_text(alloc: Global, heads: &[u32], word: u32) -> Result<String, AllocError>
+    ensures { IfOk result (λ text. IsCircleText heads.now word (string_bytes text)) }
+{
+    let mut text = format!(in alloc; "{word}")?;
     let mut here = word;
     for _ in 0..MOST {
         here = head_of(heads, here);
-        write!(text, " -> {here}").ok()?;
+        push_step(alloc, &mut text, here)?;
         if here == word {
-            return Some(text);
+            return Ok(text);
         }
     }
-    text.push_str(" -> ..").ok()?;
-    Some(text)
+    text.push_str(" -> ..")?;
+    Ok(text)
 }

@@ -21,6 +21,10 @@ pub(crate) enum Value<'a> {
 }
 
 impl Display for Value<'_> {
+    ghost use Rattle.tb_words.specs.Shown.{value_output};
+
+    ghost output = { value_output };
+
     fn fmt<W: fmt::Write>(&self, f: &mut Formatter<W>) -> fmt::Result {
         match self {
             Value::Text(text) => write!(f, "{}", shown(text)),
@@ -72,6 +76,10 @@ pub(crate) enum Detail {
 }
 
 impl Display for Detail {
+    ghost use Rattle.tb_words.specs.Shown.{detail_output};
+
+    ghost output = { detail_output };
+
     fn fmt<W: fmt::Write>(&self, f: &mut Formatter<W>) -> fmt::Result {
         match self {
             Detail::Nothing => Ok(()),

@@ -2,19 +2,24 @@
 
 ghost use Rattle.std.specs.Prelude.{◌≡◌, ◌≢◌, ◌⊎◌, ◌≤◌, ◌<◌, ◌+◌, ◌-◌, ◌^◌, ◌↔◌, count_by, IfNone, IfSome};
 ghost use Rattle.std.specs.Prelude.{IsSomeAnd, IsTrue};
-ghost use Rattle.std.specs.Prelude.{length, map, MatchOption, option_map, option_copied, position, slice_index_or, Some};
+ghost use Rattle.std.specs.Prelude.{length, map, MatchOption, option_copied, position, slice_index_or, Some, take};
 ghost use Rattle.std.specs.List.{slice_get};
+ghost use Rattle.std.specs.String.{string_bytes};
+ghost use Rattle.tb_conllu.specs.declared.id.LineId.TheVariants.{Word};
 ghost use Rattle.tb_conllu.specs.Text.{fields_of};
 ghost use Rattle.tb_conllu.specs.Words.{is_word, words_of};
 ghost use Rattle.tb_rules.specs.Comments.{text_key, trimmed, value_under};
 ghost use Rattle.tb_rules.specs.Tree.{is_root as is_root_row};
+ghost use Rattle.tb_words.specs.Circles.{SaysCircle, SaysCircleOf, circle_shown};
 ghost use Rattle.tb_words.specs.Columns.{value_bytes};
-ghost use Rattle.tb_words.specs.FileSentences.{comment_line_of, line_of_word, row_line_of};
+ghost use Rattle.tb_words.specs.FeatureFaults.{SaysFeature};
 ghost use Rattle.tb_words.specs.Keyed.{IsAtName, IsKeyed, IsMisplaced, IsMisplacedRow, SaysKey, SaysOrder, SaysSentId, SaysTaken};
 ghost use Rattle.tb_words.specs.Keyed.{next_id, order_sentence};
+ghost use Rattle.tb_words.specs.PairFaults.{SaysDeps};
 ghost use Rattle.tb_words.specs.RowFaults.{SaysHead, SaysHeaded, SaysNode, SaysRange, SaysRangePlace};
-ghost use Rattle.tb_words.specs.RowFaults.{SaysPairOf, SaysRelation, SaysRoots, SaysWord, SaysWords, range_last, reaches};
-ghost use Rattle.tb_words.specs.RowFaults.{IsRangePlaced, SaysName, root_after, word_number};
+ghost use Rattle.tb_words.specs.RowFaults.{SaysPairOf, SaysRelation, SaysRoots, SaysRow, SaysRowAt, SaysWord, SaysWords};
+ghost use Rattle.tb_words.specs.RowFaults.{IsRangePlaced, SaysName, range_last, reaches, root_after, word_number};
+ghost use Rattle.tb_words.specs.FileSentences.{line_of_word, row_line_of};
 ghost use Rattle.tb_words.specs.declared.findings.Detail.TheVariants.{Instead};
 ghost use Rattle.tb_words.specs.declared.sentences.TheConstants.{CIRCLE, TEXT_MISSING, TEXT_TWICE};
 
@@ -399,8 +404,10 @@ fn row_fault<'a>(
     ensures word { rule ≡ 4 → IfSome result (λ f. SaysWord row.now (words_of block.now) f.0 f.2.now) }
     ensures range { rule ≡ 5 → IfSome result (λ f. SaysRange before.now row.now (words_of block.now) f.0 f.2.now) }
     ensures node { rule ≡ 6 → IfSome result (λ f. SaysNode row.now f.0 f.2.now) }
-    ensures features { rule ≡ 7 → IfSome result (λ f. f.0 ≡ 5) }
-    ensures pairs { rule ≡ 8 → IfSome result (λ f. f.0 ≡ 8) }
+    ensures features { rule ≡ 7 → IfSome result (λ f. (f.0 ≡ 5)
+        × SaysFeature row.now.feats (value_bytes f.1) f.2.now) }
+    ensures pairs { rule ≡ 8 → IfSome result (λ f. (f.0 ≡ 8)
+        × SaysDeps block.now.rows row.now.deps (value_bytes f.1) f.2.now) }
     ensures value { rule ≤ 6 → IfSome result (λ f.
         value_bytes f.1 ≡ slice_index_or (fields_of row.now) f.0 row.now.misc) }
 {
@@ -427,21 +434,40 @@ fn row_at<'b, 'a>(block: &'b BlockRef<'a>, at: usize) -> Option<&'b RowRef<'a>>
     block.rows.get(at)
 }
 
-fn in_row<'a>(alloc: Global, placed: &Placed<'a>, rule: u8, at: usize) -> Option<Finding<'a>>
-    ensures line { IfSome result (λ f. f.line ≡ row_line_of placed.now at) }
-    ensures row { IfSome result (λ f. f.id ≡ option_map (λ row. row.id) (slice_get placed.now.block.rows at)) }
-    ensures column { IfSome result (λ f. (rule ≡ 7 → f.column ≡ Some 5)
-        × (rule ≡ 8 → f.column ≡ Some 8)) }
+/// What is wrong with a row after others by one of rules 4 to 8, as it is told on this line.
+fn row_finding<'a>(
+    alloc: Global,
+    placed: &Placed<'a>,
+    rule: u8,
+    line: usize,
+    before: &[RowRef<'a>],
+    row: &RowRef<'a>,
+) -> Option<Finding<'a>>
+    ensures place { IfSome result (λ f. (f.line ≡ line) × (f.id ≡ Some row.now.id)) }
+    ensures said { IfSome result (SaysRow placed.now.block rule before.now row.now) }
 {
-    let row = row_at(&placed.block, at)?;
-    let before = placed.block.rows.get(..at)?;
     let (column, value, sentence) = row_fault(alloc, &placed.block, rule, before, row)?;
     Some(
-        Finding::on(placed.row_line(at), sentence)
+        Finding::on(line, sentence)
             .of(row.id)
             .in_column(column)
             .with(value),
     )
+}
+
+/// The rows before a place.
+fn rows_before<'b, 'a>(rows: &'b [RowRef<'a>], at: usize) -> Option<&'b [RowRef<'a>]>
+    ensures { IfSome result (λ before. before.now ≡ take at rows.now) }
+{
+    rows.get(..at)
+}
+
+fn in_row<'a>(alloc: Global, placed: &Placed<'a>, rule: u8, at: usize) -> Option<Finding<'a>>
+    ensures { IfSome result (SaysRowAt placed.now rule at) }
+{
+    let row = row_at(&placed.block, at)?;
+    let before = rows_before(placed.block.rows.as_slice(), at)?;
+    row_finding(alloc, placed, rule, placed.row_line(at), before, row)
 }
 
 fn is_root(row: &RowRef<'_>) -> bool
@@ -490,18 +516,35 @@ fn root_fault<'a>(placed: &Placed<'a>) -> Option<Finding<'a>>
     }
 }
 
-fn circle_fault<'a>(alloc: Global, placed: &Placed<'a>) -> Option<Finding<'a>>
-    ensures said { IfSome result (λ f. f.sentence.now ≡ CIRCLE.now) }
-    ensures line { IfSome result (λ f. IsSomeAnd f.id (λ id. f.line ≡ line_of_word placed.now (word_number id))) }
+/// A word on a circle, and the circle.
+fn circle_finding<'a>(placed: &Placed<'a>, word: u32, circle: String) -> Finding<'a>
+    ensures said { (result.sentence.now ≡ CIRCLE.now) × (result.id ≡ Some (Word word)) }
+    ensures line { result.line ≡ line_of_word placed.now word }
+    ensures circle { circle_shown result.detail ≡ Some (string_bytes circle) }
 {
-    let heads = heads_of(alloc, placed.block.rows.as_slice())?;
-    let word = on_circle(heads.as_slice())?;
-    let circle = circle_text(alloc, heads.as_slice(), word)?;
-    Some(
-        Finding::on(placed.word_line(word), reported::CIRCLE)
-            .of(LineId::Word(word))
-            .and(Detail::Circle(circle)),
-    )
+    Finding::on(placed.word_line(word), reported::CIRCLE)
+        .of(LineId::Word(word))
+        .and(Detail::Circle(circle))
+}
+
+/// A word from which as many steps as there are words do not lead to 0.
+fn circle_with<'a>(alloc: Global, placed: &Placed<'a>, heads: &[u32]) -> Option<Finding<'a>>
+    ensures { IfSome result (SaysCircleOf heads.now placed.now) }
+{
+    let word = on_circle(heads)?;
+    let Ok(circle) = circle_text(alloc, heads, word) else {
+        return None;
+    };
+    Some(circle_finding(placed, word, circle))
+}
+
+fn circle_fault<'a>(alloc: Global, placed: &Placed<'a>) -> Option<Finding<'a>>
+    ensures { IfSome result (SaysCircle placed.now) }
+{
+    let Ok(heads) = heads_of(alloc, placed.block.rows.as_slice()) else {
+        return None;
+    };
+    circle_with(alloc, placed, heads.as_slice())
 }
 
 /// What is wrong with a sentence that has the name of an earlier one: its number, and its first line.
@@ -527,10 +570,9 @@ pub(crate) fn fault_by<'a>(
     ensures text { rule ≡ 2 → IfSome result (SaysKey placed.now text_key TEXT_MISSING.now TEXT_TWICE.now) }
     ensures order { rule ≡ 3 → length placed.now.block.rows + 1 < 2 ^ 32
         → IfSome result (λ f. SaysOrder placed.now f ⊎ SaysWords placed.now (words_of placed.now.block) f) }
-    ensures rows { 4 ≤ rule → rule ≤ 8 → 1 ≤ row
-        → IfSome result (λ f. f.line ≡ row_line_of placed.now (row - 1)) }
+    ensures rows { 4 ≤ rule → rule ≤ 8 → 1 ≤ row → IfSome result (SaysRowAt placed.now rule (row - 1)) }
     ensures roots { rule ≡ 9 → IfSome result (SaysRoots placed.now) }
-    ensures circle { rule ≡ 10 → IfSome result (λ f. f.sentence.now ≡ CIRCLE.now) }
+    ensures circle { rule ≡ 10 → IfSome result (SaysCircle placed.now) }
 {
     match rule {
         1 => sent_id_fault(placed),

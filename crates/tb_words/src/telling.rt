@@ -1,7 +1,7 @@
 //! Tells the faults of a file, in one walk over it.
 
-ghost use Rattle.std.specs.Prelude.{◌≡◌, ◌≤◌, ◌-◌, [], IfOk, IfSome, IsOk, Some, map, max};
-ghost use Rattle.tb_words.specs.FileSentences.{row_line_of};
+ghost use Rattle.std.specs.Prelude.{◌≡◌, [], IfOk, IfSome, IsOk, Some, map, max};
+ghost use Rattle.tb_words.specs.Explaining.{ExplainsRule, SaysOfRule, SaysSentence};
 ghost use Rattle.tb_words.specs.Named.{IsFirstNamed, SaysFirstTaken, is_named};
 ghost use Rattle.tb_words.specs.Told.{TellsLine};
 ghost use Rattle.tb_words.specs.declared.words.Page.TheVariants.{Code, Rule};
@@ -75,9 +75,7 @@ fn fault_in<'a>(
     rule: u8,
     row: u64,
 ) -> Option<Finding<'a>>
-    ensures taken { rule ≡ 12 → IfSome result (SaysFirstTaken file.now placed.now) }
-    ensures rows { 4 ≤ rule → rule ≤ 8 → 1 ≤ row
-        → IfSome result (λ f. f.line ≡ row_line_of placed.now (row - 1)) }
+    ensures { IfSome result (SaysOfRule file.now placed.now rule row) }
 {
     if rule == 12 {
         return taken_in(alloc, file, placed, sentence);
@@ -86,7 +84,9 @@ fn fault_in<'a>(
 }
 
 /// The words for what is wrong with the sentence that has this number by this rule.
-fn words_in(alloc: Global, file: &[u8], sentence: u64, rule: u8, row: u64) -> Option<Words> {
+fn words_in(alloc: Global, file: &[u8], sentence: u64, rule: u8, row: u64) -> Option<Words>
+    ensures { IfSome result (ExplainsRule file.now sentence rule row) }
+{
     let placed = sentence_at(alloc, file, sentence)?;
     let fault = fault_in(alloc, file, &placed, sentence, rule, row)?;
     Some(fault.words(alloc))
@@ -95,13 +95,15 @@ fn words_in(alloc: Global, file: &[u8], sentence: u64, rule: u8, row: u64) -> Op
 /// The words for a broken rule: where the sentence with this number, counted from 1, breaks it, and by what. The row
 /// is that of rules 4 to 8, else 0.
 pub(crate) fn words_of_rule(alloc: Global, file: &[u8], sentence: u64, rule: u8, row: u64) -> Words
-    ensures { result.page ≡ Some (Rule rule) }
+    ensures page { result.page ≡ Some (Rule rule) }
+    ensures said { SaysSentence file.now sentence rule row result }
 {
-    let words = match words_in(alloc, file, sentence, rule, row) {
-        Some(words) => words,
-        None => Words::at(format!(in alloc; "sentence {sentence}"), reported::BROKEN),
-    };
-    words.on(Page::Rule(rule))
+    match words_in(alloc, file, sentence, rule, row) {
+        Some(words) => words.on(Page::Rule(rule)),
+        None => Words::at(format!(in alloc; "sentence {sentence}"), reported::BROKEN).on(Page::Rule(
+            rule,
+        )),
+    }
 }
 
 /// A walk over a file, up to the last fault that was told.

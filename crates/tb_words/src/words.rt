@@ -160,6 +160,11 @@ pub(crate) fn named(id: LineId) -> RowName
 }
 
 impl Display for RowName {
+    ghost use Rattle.std.specs.Prelude.{Some};
+    ghost use Rattle.tb_words.specs.Shown.{row_name};
+
+    ghost output = { λ name. Some (row_name name.id) };
+
     fn fmt<W: fmt::Write>(&self, f: &mut Formatter<W>) -> fmt::Result {
         match self.id {
             LineId::Word(word) => write!(f, "word {word}"),

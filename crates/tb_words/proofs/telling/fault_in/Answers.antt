@@ -1,0 +1,13 @@
+use Rattle.std.proofs.Common.{arith}
+use Rattle.tb_words.proofs.RuleSteps.{by_name, by_rule}
+use Rattle.tb_words.proofs.telling.fault_in.Goals as goal
+
+pub returns-then-rule-eq12 : goal.returns-then-rule-eq12
+returns-then-rule-eq12 c =
+    by_name c.args.file.now c.args.placed.now c.args.rule c.args.row c.taken_in.result (omega arith) c.taken_in.ensures
+
+pub returns : goal.returns
+returns c =
+    by_rule c.args.file.now c.args.placed.now c.args.rule c.args.row c.fault_by.result (λ is. omega (arith, is, c.if-rule-eq12.false))
+    c.fault_by.ensures.sent_id c.fault_by.ensures.text c.fault_by.ensures.order c.fault_by.ensures.rows c.fault_by.ensures.roots
+    c.fault_by.ensures.circle
