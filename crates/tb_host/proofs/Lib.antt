@@ -1,4 +1,7 @@
+mod Awaited
 mod Handed
 mod Led
 mod Listed
 mod Shown
+mod Unlisted
+mod Valued

@@ -15,6 +15,7 @@ use Rattle.std.specs.declared.io.ErrorKind.TheVariants.{NotFound, NotADirectory}
 use Rattle.memchr.specs.Find.{OccursAt}
 use Rattle.sqlite_wal.specs.Format.{be32}
 use Rattle.sqlite_wal.specs.Recovery.{AreFramesOf, IsIgnored}
+use Rattle.tb_host.specs.Causes.{IsSystemCause}
 use Rattle.tb_host.specs.declared.contents.Version.{Version}
 use Rattle.tb_host.specs.declared.contents.Version.TheVariants.{One, Two}
 use Rattle.tb_host.specs.declared.causes.FileCause.{FileCause}
@@ -162,6 +163,26 @@ abbrev pub ListsDesk : (IsBeginning : List ℕ → ℕ → List ℕ → Type 0) 
 ListsDesk IsBeginning path version =
     ((head : List ℕ) × IsBeginning path 65536 head × IsListed head (Some version))
     ⊎ ((log : List ℕ) × IsBeginning (path ++ codes "-wal") 4194304 log × IsListed log (Some version))
+
+-- the cause for a call of the system that failed, or for want of memory
+abbrev pub IsFailedCall : FileCause → Type 0
+IsFailedCall cause = (cause ≡ file.Memory) ⊎ IsSystemCause cause
+
+-- Neither the first bytes of a log nor those of its file list a desk.
+abbrev pub ListsNoDesk : (IsBeginning : List ℕ → ℕ → List ℕ → Type 0) → (path : List ℕ) → Type 0
+ListsNoDesk IsBeginning path = (head : List ℕ) × (log : List ℕ) × IsBeginning path 65536 head × IsListed head None
+    × IsBeginning (path ++ codes "-wal") 4194304 log × IsListed log None
+
+-- Why no desk is listed: the file holds something else than a database, or nothing, its log is no plain file, or neither
+-- of them lists the tables of a desk.
+abbrev pub IsUnlisted : (IsThere : List ℕ → Option Metadata → Type 0)
+    → (IsBeginning : List ℕ → ℕ → List ℕ → Type 0) → (path : List ℕ) → FileCause → Type 0
+IsUnlisted IsThere IsBeginning path cause = IsFailedCall cause
+    ⊎ ((cause ≡ file.NotSqlite) × ((head : List ℕ) × IsBeginning path 65536 head × IsOtherFile head))
+    ⊎ ((cause ≡ file.OddLog) × ((found : Metadata) × IsThere (path ++ codes "-wal") (Some found)
+    × ¬ IsFile (file_type found)))
+    ⊎ ((cause ≡ file.Empty) × IsBeginning path 65536 [])
+    ⊎ ((cause ≡ file.OtherDatabase) × ListsNoDesk IsBeginning path)
 
 -- the greatest length of a log that a stopped `new` leaves: one mebibyte
 abbrev pub own_log_limit : ℕ

@@ -1,3 +1,4 @@
+pub mod Awaiting
 pub mod Causes
 pub mod Contents
 pub mod Forms
@@ -8,3 +9,4 @@ pub mod Patience
 pub mod Reported
 pub mod Sentences
 pub mod Streams
+pub mod Words

@@ -1,12 +1,14 @@
 //! Desks in files. This module is tested, not proved: no contract ties a file to its path.
 
-ghost use Rattle.std.specs.Prelude.{◌≡◌, ◌≢◌, ◌↔◌, ◌+◌, ◌/◌, ℕ, false, min, IfErr, IfOk, IsErrAnd, IsOk, IsOkAnd};
-ghost use Rattle.std.specs.Prelude.{IsTrue, MatchResult, None, Ok as Opened, Err as ErrOf, Result, string_bytes};
+ghost use Rattle.std.specs.Prelude.{◌≡◌, ◌≢◌, ◌↔◌, ◌+◌, ◌/◌, ℕ, [], ◌∷◌, Bool, false, true, min, IfErr, IfOk, IsErrAnd, IsOk, IsOkAnd};
+ghost use Rattle.std.specs.Prelude.{IsTrue, MatchOption, MatchResult, None, Ok as Opened, Err as ErrOf, Option, Result, string_bytes};
 ghost use Rattle.std.specs.declared.io.Error.{Error as SystemError};
 ghost use Rattle.sqlite.specs.Files.{IsOpened, file_state, over_files};
 ghost use Rattle.sqlite.specs.State.{HasCleanDisk};
 ghost use Rattle.sqlite.specs.Steps.{over_memory};
-ghost use Rattle.tb_host.specs.Causes.{IsPathCause, reply_of, reply_of_error, reply_of_fault};
+ghost use Rattle.tb_host.specs.Awaiting.{HasWaited, Makes, closed, dropped, undone};
+ghost use Rattle.tb_host.specs.Causes.{reply_of, reply_of_error, reply_of_fault};
+ghost use Rattle.tb_host.specs.declared.causes.FileCause.{FileCause as AnyFileCause};
 ghost use Rattle.sqlite.specs.declared.error.Error.{Error as DatabaseError};
 ghost use Rattle.tb_host.specs.Contents.{IsLogName, IsReserved, IsUndone, cause_to_migrate, is_empty_log, is_missing};
 ghost use Rattle.tb_host.specs.Contents.{may_be_opened, size_of, was_there, what_to_undo};
@@ -15,15 +17,14 @@ ghost use Rattle.tb_host.specs.Opened.{IsEmptyDesk, IsMadeDesk, IsSomeDesk};
 
 use crate::causes::FileCause;
 use crate::contents::{PAGE_BYTES, Version};
-use crate::diagnostics::wants_words;
 use crate::found::Found;
 use crate::looking::{beside, may_become_desk, version_of};
-use crate::misfit::{Misfit, first_misfit};
+use crate::misfit::{Misfit, Rows};
 use crate::system::System;
-use crate::turns::Turn;
-use sqlite::{Alter, Connection, Error, ErrorCode, File, FileStore, Leftover, MemStore, Options};
-use sqlite_disk::{Disk, Files, Unknown};
-use sqlite_std_file::OpenError;
+use crate::turns::{Awaited, Turn, locked};
+use sqlite::{Connection, Error, ErrorCode, File, FileStore, Leftover, MemStore, Options};
+use sqlite_disk::{Disk, Files};
+use std::alloc::Global;
 use std::hash::{BuildHasher, RandomState};
 use std::io::ErrorKind;
 use std::{fs, io};
@@ -62,18 +63,6 @@ fn cause_of_error(error: Error) -> FileCause
         Error::SqliteFailure(ErrorCode::DatabaseBusy) => FileCause::Busy,
         Error::SqliteFailure(ErrorCode::SystemIoFailure) => FileCause::of_device(FileCause::Failed),
         _ => FileCause::Damaged,
-    }
-}
-
-/// The cause for a file that the system does not open. There is none where another command has it, which has to wait.
-fn cause_of_path(error: OpenError) -> Option<FileCause>
-    ensures { IsPathCause error result }
-{
-    match error {
-        OpenError::OutOfMemory => Some(FileCause::Memory),
-        OpenError::Busy => None,
-        OpenError::HotJournal => Some(FileCause::Journal),
-        OpenError::Io(error) => Some(FileCause::of_system(error)),
     }
 }
 
@@ -283,8 +272,8 @@ fn options(rt: &HostRuntime, path: &str, room: u64) -> Result<Options, FileCause
 
 /// The connection that the database has opened over files, or the cause for which it has not. Where they are no
 /// database, the log stays as it was.
-fn connection<D: Disk + Drop>(
-    rt: &HostRuntime,
+fn connection<S: System, D: Disk + Drop>(
+    system: &S,
     log: &Log,
     opened: Result<Connection<FileStore<D>>, (Error, Leftover<D>)>,
 ) -> Result<Connection<FileStore<D>>, FileCause>
@@ -296,7 +285,7 @@ fn connection<D: Disk + Drop>(
         Err((error, left)) => {
             let cause = cause_of_error(error);
             if cause.is_no_desk() {
-                let _ = log.undo(rt);
+                let _ = log.undo(system);
             }
             drop(left);
             Err(cause)
@@ -305,8 +294,8 @@ fn connection<D: Disk + Drop>(
 }
 
 /// A connection over these files, in no transaction. Where they are no database, the log stays as it was.
-fn over<D: Disk + Drop>(
-    rt: &HostRuntime,
+fn over<S: System, D: Disk + Drop>(
+    system: &S,
     files: Files<D>,
     log: &Log,
     options: Options,
@@ -317,7 +306,53 @@ fn over<D: Disk + Drop>(
     ensures opened { IfOk result (λ c. HasCleanDisk (file_state c) → IsOpened c) }
     ensures cause { IfErr result (λ cause. (e : DatabaseError) × (reply_of cause ≡ reply_of_error e)) }
 {
-    connection(rt, log, Connection::open_files(rt.alloc(), files, options))
+    connection(
+        system,
+        log,
+        Connection::open_files(system.memory(), files, options),
+    )
+}
+
+/// The same once the files are locked: only then nobody else writes the log, and it is looked at again.
+fn over_locked<S: System, D: Disk + Drop>(
+    system: &S,
+    files: Files<D>,
+    log: &mut Log,
+    options: Options,
+) -> Result<Connection<FileStore<D>>, FileCause>
+    requires log { IsTrue (D.Disk.is_usable files.log) }
+    requires db { IsTrue (D.Disk.is_usable files.db) }
+    ensures new { IfOk result (λ c. c.in_transaction ≡ false) }
+    ensures opened { IfOk result (λ c. HasCleanDisk (file_state c) → IsOpened c) }
+    ensures cause { IfErr result (λ cause. (e : DatabaseError) × (reply_of cause ≡ reply_of_error e)) }
+    ensures same { (log.new.path ≡ log.old.path) × (log.new.was_there ≡ log.old.was_there) }
+    ensures seen { (found : Result FoundFile SystemError) × S.IsFound system.now (string_bytes log.old.path) found
+        × (log.new.is_empty ≡ is_empty_log found) }
+{
+    log.look(system);
+    over(system, files, log, options)
+}
+
+/// A connection to a file that a command waits for, in no transaction. Until it is locked, its log is not looked at.
+fn connect_to<S: System, D: Disk + Drop, A: Awaited<D>>(
+    system: &S,
+    awaited: &mut A,
+    log: &mut Log,
+    options: Options,
+) -> Result<Connection<FileStore<D>>, FileCause>
+    ensures new { IfOk result (λ c. c.in_transaction ≡ false) }
+    ensures opened { IfOk result (λ c. HasCleanDisk (file_state c) → IsOpened c) }
+    ensures same { (log.new.path ≡ log.old.path) × (log.new.was_there ≡ log.old.was_there) }
+    ensures waited { (ended : Option AnyFileCause) × HasWaited (A.calls awaited.old) (A.calls awaited.new) ended
+        × MatchOption ended
+        ((found : Result FoundFile SystemError) × S.IsFound system.now (string_bytes log.old.path) found
+        × (log.new.is_empty ≡ is_empty_log found))
+        (λ cause. (result ≡ ErrOf cause) × (log.new ≡ log.old)) }
+{
+    match locked(awaited) {
+        Ok(files) => over_locked(system, files, log, options),
+        Err(cause) => Err(cause),
+    }
 }
 
 /// A connection to the file at this path, in no transaction, with room for so many pages more. It waits for a file
@@ -334,30 +369,101 @@ fn connect(
 {
     let options = options(rt, path, room)?;
     let mut turn = Turn::new(rt, program, path)?;
-    for _ in 0..u64::MAX {
-        match sqlite_std_file::open(rt, path, Unknown) {
-            Ok(files) => {
-                log.look(rt);
-                return over(rt, files, log, options);
-            }
-            Err(error) => match cause_of_path(error) {
-                Some(cause) => return Err(cause),
-                None => turn.wait()?,
-            },
-        }
+    connect_to(rt, &mut turn, log, options)
+}
+
+/// What is wrong first with rows, where words are wanted.
+fn misfit_if<R: Rows>(is_wanted: bool, alloc: Global, rows: &mut R) -> Option<Misfit>
+    ensures wanted { is_wanted ≡ true → R.IsMisfit rows.old result }
+    ensures unwanted { is_wanted ≡ false → (result ≡ None) × (rows.new ≡ rows.old) }
+{
+    if is_wanted {
+        rows.first_misfit(alloc)
+    } else {
+        None
     }
-    Err(FileCause::Busy)
 }
 
 /// What is wrong first with the rows of a file that is no desk, where words are wanted.
-fn misfit_of<S: Alter>(rt: &HostRuntime, fault: Fault, conn: &mut Connection<S>) -> Option<Misfit>
-    ensures { fault ≢ Fault.NotADesk → (result ≡ None) × (conn.new ≡ conn.old) }
+fn misfit_of<S: System, R: Rows>(system: &S, fault: Fault, rows: &mut R) -> Option<Misfit>
+    ensures other { fault ≢ Fault.NotADesk → (result ≡ None) × (rows.new ≡ rows.old) }
+    ensures no_desk { fault ≡ Fault.NotADesk → (wanted : Bool) × S.WantsWords system.now wanted
+        × (wanted ≡ true → R.IsMisfit rows.old result)
+        × (wanted ≡ false → (result ≡ None) × (rows.new ≡ rows.old)) }
 {
     // Of a device that failed the system is asked nothing more here: its last error is the device's.
-    if fault == Fault::NotADesk && wants_words(rt) {
-        first_misfit(rt.alloc(), conn)
+    if fault != Fault::NotADesk {
+        return None;
+    }
+    misfit_if(system.wants_words(), system.memory(), rows)
+}
+
+/// A file that is let go, in which no desk was opened or made.
+trait Parts {
+    ghost use Rattle.std.specs.Prelude.{[], ◌∷◌, List, Option, string_bytes};
+    ghost use Rattle.tb_host.specs.Awaiting.{Makes, Parting, closed, dropped, undone};
+
+    // what was done to it, where that is kept
+    ghost done: { Self → Option (List Parting) };
+
+    /// Undoes what opening it has written to its log.
+    fn undo(&mut self, log: &Log)
+        ensures { Makes (done self.old) (done self.new) (undone (string_bytes log.now.path) ∷ []) };
+
+    /// Lets it go as it is.
+    fn let_go(&mut self)
+        ensures { Makes (done self.old) (done self.new) (dropped ∷ []) };
+
+    /// Writes its log into it, and lets it go.
+    fn close(&mut self)
+        ensures { Makes (done self.old) (done self.new) (closed ∷ []) };
+}
+
+/// A connection to a file of the system's, until it is let go.
+#[derive(Drop)]
+struct Connected<'a> {
+    rt: &'a HostRuntime,
+    conn: Option<Connection<FileStore<File>>>,
+}
+
+impl Parts for Connected<'_> {
+    ghost use Rattle.std.specs.Prelude.{None};
+
+    ghost done = { λ _. None };
+
+    fn undo(&mut self, log: &Log) {
+        let _ = log.undo(self.rt);
+    }
+
+    fn let_go(&mut self) {
+        self.conn = None;
+    }
+
+    fn close(&mut self) {
+        if let Some(conn) = self.conn.take() {
+            let _ = conn.close();
+        }
+    }
+}
+
+/// Lets a file go that is no desk. Its log becomes what it was before that, while the file is still locked.
+fn leave<P: Parts>(file: &mut P, log: &Log)
+    ensures { Makes (P.done file.old) (P.done file.new) (undone (string_bytes log.now.path) ∷ (dropped ∷ [])) }
+{
+    file.undo(log);
+    file.let_go();
+}
+
+/// Lets a file go. What is no desk stays as it was.
+fn part_with<P: Parts>(file: &mut P, log: &Log, is_no_desk: bool)
+    ensures no_desk { is_no_desk ≡ true → Makes (P.done file.old) (P.done file.new)
+        (undone (string_bytes log.now.path) ∷ (dropped ∷ [])) }
+    ensures desk { is_no_desk ≡ false → Makes (P.done file.old) (P.done file.new) (closed ∷ []) }
+{
+    if is_no_desk {
+        leave(file, log);
     } else {
-        None
+        file.close();
     }
 }
 
@@ -372,12 +478,11 @@ fn given_up(
     ensures { reply_of not_a_desk ≡ Reply.Desk → reply_of result ≡ reply_of_fault fault }
 {
     let cause = cause_of_fault(fault, not_a_desk);
-    if cause.is_no_desk() {
-        let _ = log.undo(rt);
-        drop(conn);
-    } else {
-        let _ = conn.close();
-    }
+    let mut file = Connected {
+        rt,
+        conn: Some(conn),
+    };
+    part_with(&mut file, log, cause.is_no_desk());
     cause
 }
 

@@ -2,11 +2,12 @@
 //! the file is no desk.
 
 ghost use Rattle.std.specs.Prelude.{◌≡◌, ◌⊎◌, ◌↔◌, ◌++◌, ◌<◌, ◌≤◌, ℕ, List, Bool, IfErr, IfOk, IsOkAnd, IsSomeAnd};
-ghost use Rattle.std.specs.Prelude.{IsTrue, Err as ErrOf, MatchResult, OnOk, Option, Some, codes, false};
+ghost use Rattle.std.specs.Prelude.{IsTrue, Err as ErrOf, MatchResult, None, OnOk, Option, Some, codes, false};
 ghost use Rattle.std.specs.Prelude.{string_bytes};
 ghost use Rattle.std.specs.Fs.{IsDir, IsFile, file_type, metadata_len};
 ghost use Rattle.std.specs.Path.{path_buf_bytes};
-ghost use Rattle.tb_host.specs.Contents.{BeginsWith, HasNoJournal, HasOwnLog, IsBlank, IsListed, IsOtherFile};
+ghost use Rattle.tb_host.specs.Contents.{BeginsWith, HasNoJournal, HasOwnLog, IsBlank, IsListed, IsFailedCall, IsOtherFile};
+ghost use Rattle.tb_host.specs.Contents.{IsUnlisted};
 ghost use Rattle.tb_host.specs.Contents.{IsNotPlain, IsReserved, LeadsTo, ListsDesk, ListsTables};
 ghost use Rattle.tb_host.specs.Contents.{MayBeOwnLog, MayBecomeDesk, Path};
 ghost use Rattle.tb_host.specs.Contents.{is_hot, is_looked_at_again, odd_cause, own_log_limit, place_of, version_by};
@@ -48,7 +49,8 @@ fn there_beside<S: System>(
     path: &str,
     ending: &str,
 ) -> Result<Option<fs::Metadata>, FileCause>
-    ensures { IfOk result (S.IsThere system.now (path.now ++ ending.now)) }
+    ensures there { IfOk result (S.IsThere system.now (path.now ++ ending.now)) }
+    ensures cause { IfErr result IsFailedCall }
 {
     let name = beside(system.memory(), path, ending)?;
     system.there(name.as_str())
@@ -61,7 +63,8 @@ fn beginning_beside<S: System>(
     ending: &str,
     most: u64,
 ) -> Result<Vec<u8>, FileCause>
-    ensures { IfOk result (λ bytes. S.IsBeginning system.now (path.now ++ ending.now) most bytes.items) }
+    ensures bytes { IfOk result (λ bytes. S.IsBeginning system.now (path.now ++ ending.now) most bytes.items) }
+    ensures cause { IfErr result IsFailedCall }
 {
     let name = beside(system.memory(), path, ending)?;
     system.beginning(name.as_str(), most)
@@ -125,9 +128,12 @@ fn listed_in_log<S: System>(
     path: &str,
     in_file: Option<Version>,
 ) -> Result<Version, FileCause>
-    ensures { IfOk result (λ version. (in_file ≡ Some version)
+    ensures listed { IfOk result (λ version. (in_file ≡ Some version)
         ⊎ ((log : List ℕ) × S.IsBeginning system.now (path.now ++ codes "-wal") 4194304 log
         × IsListed log (Some version))) }
+    ensures unlisted { IfErr result (λ cause. IsFailedCall cause ⊎ ((cause ≡ FileCause.OtherDatabase)
+        × (in_file ≡ None) × ((log : List ℕ) × S.IsBeginning system.now (path.now ++ codes "-wal") 4194304 log
+        × IsListed log None))) }
 {
     let log = beginning_beside(system, path, "-wal", LOG_LOOKED_AT)?;
     version_by(listed_in(&log), in_file)
@@ -136,7 +142,8 @@ fn listed_in_log<S: System>(
 /// The version of desk that a file may be, by the first bytes of it and its log, read once. The log has tables that
 /// the file itself does not have yet.
 fn listed_now<S: System>(system: &S, path: &str) -> Result<Version, FileCause>
-    ensures { IfOk result (ListsDesk (S.IsBeginning system.now) path.now) }
+    ensures lists { IfOk result (ListsDesk (S.IsBeginning system.now) path.now) }
+    ensures unlisted { IfErr result (IsUnlisted (S.IsThere system.now) (S.IsBeginning system.now) path.now) }
 {
     let head = system.beginning(path, LOOKED_AT)?;
     if is_other_file(&head) {
@@ -170,7 +177,8 @@ fn is_looked_at_again(found: Result<Version, FileCause>) -> bool
 /// The version of desk that a file may be. While another command closes a desk, its tables move from the log into the
 /// file. If neither has them at the first look, the file has them at the second.
 fn listed<S: System>(system: &S, path: &str) -> Result<Version, FileCause>
-    ensures { IfOk result (ListsDesk (S.IsBeginning system.now) path.now) }
+    ensures lists { IfOk result (ListsDesk (S.IsBeginning system.now) path.now) }
+    ensures unlisted { IfErr result (IsUnlisted (S.IsThere system.now) (S.IsBeginning system.now) path.now) }
 {
     let found = listed_now(system, path);
     if is_looked_at_again(found) {

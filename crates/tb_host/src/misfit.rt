@@ -1,7 +1,11 @@
 //! Which row is wrong first in a file whose rows are not those of a desk, for the words about it. This decides nothing:
 //! it reads the tables once more, after the file was refused.
 
-ghost use Rattle.std.specs.Prelude.{◌≡◌, ◌≢◌, ◌↔◌, ◌≤◌, [], ◌∷◌, IsErrAnd, IsOk, IsTrue, MatchResult, Some};
+ghost use Rattle.std.specs.Prelude.{◌≡◌, ◌≢◌, ◌↔◌, ◌≤◌, ◌<◌, ◌++◌, [], ◌∷◌, length, IsErrAnd, IsOk, IsTrue, MatchResult};
+ghost use Rattle.std.specs.Prelude.{ℕ, IfSome, None, Some, pos};
+ghost use Rattle.std.specs.List.{AllWithin, HoldsAt};
+ghost use Rattle.sqlite.specs.Order.{column};
+ghost use Rattle.sqlite.specs.declared.types.Value.TheVariants.{Int};
 ghost use Rattle.std.specs.Prelude.{Err as ErrOf, Ok as Read, false};
 ghost use Rattle.tb_host.specs.Misfits.{IsStopOf, IsUnreadable, first_pulled, first_revised, found_by};
 ghost use Rattle.tb_host.specs.Misfits.{query_of_numbers, smaller, stop_by, table_name};
@@ -98,21 +102,37 @@ enum Stop {
 }
 
 impl From<AllocError> for Stop {
+    ghost use Rattle.std.specs.Prelude.{◌≡◌};
+    ghost use Rattle.tb_host.specs.declared.misfit.Stop.TheVariants.{Failed};
+
+    ghost from_gives = { λ _ stop. stop ≡ Failed };
+
     fn from(_: AllocError) -> Stop {
         Stop::Failed
     }
 }
 
 impl<T: Drop> From<AllocFailed<T>> for Stop {
+    ghost use Rattle.std.specs.Prelude.{◌≡◌};
+    ghost use Rattle.tb_host.specs.declared.misfit.Stop.TheVariants.{Failed};
+
+    ghost from_gives = { λ _ stop. stop ≡ Failed };
+
     fn from(_: AllocFailed<T>) -> Stop {
         Stop::Failed
     }
 }
 
 /// The number in the first column, if it is one.
-fn number_in(row: &Row) -> Option<u64> {
+fn number_in(row: &Row) -> Option<u64>
+    ensures some { IfSome result (λ n. column row.now 0 ≡ Int (pos n)) }
+    ensures none { result ≡ None → (n : ℕ) → 0 < length row.now → column row.now 0 ≢ Int (pos n) }
+{
     match row.get_ref(0) {
-        Ok(ValueRef::Int(number)) => u64::try_from(number).ok(),
+        Ok(ValueRef::Int(number)) => match u64::try_from(number) {
+            Ok(number) => Some(number),
+            Err(_) => None,
+        },
         _ => None,
     }
 }
@@ -200,7 +220,11 @@ fn batches_in<'a>(
 }
 
 /// How many of the first rows are of the sentence with this number.
-fn own_rows(revisions: &[RevisionRow], number: u64) -> usize {
+fn own_rows(revisions: &[RevisionRow], number: u64) -> usize
+    ensures bound { result ≤ length revisions.now }
+    ensures own { AllWithin (λ row. row.sent ≡ number) revisions.now 0 result }
+    ensures end { result < length revisions.now → HoldsAt (λ row. row.sent ≢ number) revisions.now result }
+{
     for at in 0..revisions.len() {
         if u64::from(revisions[at].sent) != number {
             return at;
@@ -250,7 +274,13 @@ struct Rest<'a> {
 
 impl<'a> Rest<'a> {
     /// Takes the revisions of the sentence with this number.
-    fn revisions_of(&mut self, number: u64) -> &'a [RevisionRow] {
+    fn revisions_of(&mut self, number: u64) -> &'a [RevisionRow]
+        ensures cut { self.old.revisions.now ≡ result.now ++ self.new.revisions.now }
+        ensures own { AllWithin (λ row. row.sent ≡ number) self.old.revisions.now 0 (length result.now) }
+        ensures end { length result.now < length self.old.revisions.now
+            → HoldsAt (λ row. row.sent ≢ number) self.old.revisions.now (length result.now) }
+        ensures pulled { self.new.pulled ≡ self.old.pulled }
+    {
         let count = own_rows(self.revisions, number);
         match self.revisions.split_at_checked(count) {
             Some((own, later)) => {
@@ -395,7 +425,23 @@ fn found_by(looked: Result<(), Stop>) -> Option<Misfit>
     }
 }
 
-/// What is wrong first with the rows of a file that is no desk. `None` where memory or the store fails.
-pub(crate) fn first_misfit<S: Alter>(alloc: Global, conn: &mut Connection<S>) -> Option<Misfit> {
-    found_by(look(alloc, conn))
+/// The rows of a file that is no desk.
+pub(crate) trait Rows {
+    ghost use Rattle.std.specs.Prelude.{Option};
+    ghost use Rattle.tb_host.specs.declared.misfit.Misfit.{Misfit};
+
+    // what a look at them finds wrong first; none where memory or the store fails
+    ghost IsMisfit: { Self → Option Misfit → Type 0 };
+
+    /// Looks for what is wrong first.
+    fn first_misfit(&mut self, alloc: Global) -> Option<Misfit>
+        ensures { IsMisfit self.old result };
+}
+
+impl<S: Alter> Rows for Connection<S> {
+    ghost IsMisfit = { λ _ _. Unit {0} };
+
+    fn first_misfit(&mut self, alloc: Global) -> Option<Misfit> {
+        found_by(look(alloc, self))
+    }
 }

@@ -7,6 +7,7 @@ ghost use Rattle.std.specs.Fs.{metadata_len};
 ghost use Rattle.tb_host.specs.Causes.{IsSystemCause};
 
 use crate::causes::{FileCause, told, told_if_there};
+use crate::diagnostics::wants_words;
 use crate::found::Found;
 use std::alloc::Global;
 use std::fs::{self, OpenOptions};
@@ -16,7 +17,7 @@ use std::path::PathBuf;
 
 /// A system with files. What it did before may change what it says.
 pub(crate) trait System {
-    ghost use Rattle.std.specs.Prelude.{ℕ, List, Option, Result};
+    ghost use Rattle.std.specs.Prelude.{ℕ, Bool, List, Option, Result};
     ghost use Rattle.std.specs.declared.fs.attrs.Metadata.{Metadata};
     ghost use Rattle.std.specs.Global.{Global};
     ghost use Rattle.std.specs.declared.io.Error.{Error};
@@ -45,6 +46,9 @@ pub(crate) trait System {
     // what it says where the file at a path is to be removed
     ghost IsRemoved: { Self → List ℕ → Result (Unit {0}) Error → Type 0 };
 
+    // whether words are wanted on standard error
+    ghost WantsWords: { Self → Bool → Type 0 };
+
     /// Finds the file to which a path leads.
     fn find(&self, path: &str) -> io::Result<Found>
         ensures { IsFound self.now path.now result };
@@ -71,6 +75,10 @@ pub(crate) trait System {
 
     /// Its memory.
     fn memory(&self) -> Global;
+
+    /// Whether words are wanted on standard error.
+    fn wants_words(&self) -> bool
+        ensures { WantsWords self.now result };
 
     /// Makes the file at a path empty.
     fn empty(&self, path: &str) -> io::Result<()>
@@ -164,6 +172,8 @@ impl System for HostRuntime {
 
     ghost IsRemoved = { λ _ _ _. Unit {0} };
 
+    ghost WantsWords = { λ _ _. Unit {0} };
+
     fn find(&self, path: &str) -> io::Result<Found> {
         match fs::metadata(self, path) {
             Ok(noted) => Ok(found_in(&noted)),
@@ -192,6 +202,10 @@ impl System for HostRuntime {
 
     fn memory(&self) -> Global {
         self.alloc()
+    }
+
+    fn wants_words(&self) -> bool {
+        wants_words(self)
     }
 
     fn empty(&self, path: &str) -> io::Result<()> {

@@ -8,4 +8,4 @@ returns g c =
     weaker (λ has. has ≡ false → MayBeOwnLog c.deref.result.now)
     (λ has. has ≡ false → (x : List ℕ) × g.S.System.IsBeginning c.args.system.now (c.args.path.now ++ codes "-wal") own_log_limit x × MayBeOwnLog x)
     c.has_commits.result c.has_commits.ensures.none
-    (λ has own lacks. (c.in_ok-bytes.bytes.items, c.in_ok-bytes.ensures, subst MayBeOwnLog c.deref.ensures.value (own lacks)))
+    (λ has own lacks. (c.in_ok-bytes.bytes.items, c.in_ok-bytes.ensures.bytes, subst MayBeOwnLog c.deref.ensures.value (own lacks)))

@@ -6,4 +6,4 @@ pub returns : goal.returns
 returns g c =
     weaker (ListsDesk (g.S.System.IsBeginning c.args.system.now) c.args.path.now)
     (λ v. ListsDesk (g.S.System.IsBeginning c.args.system.now) c.args.path.now v × HasNoJournal (g.S.System.IsBeginning c.args.system.now) c.args.path.now)
-    c.listed.result c.listed.ensures (λ v lists. (lists, c.in_ok-has_journal.ensures c.if-branch.false))
+    c.listed.result c.listed.ensures.lists (λ v lists. (lists, c.in_ok-has_journal.ensures c.if-branch.false))

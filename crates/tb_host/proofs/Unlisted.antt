@@ -1,0 +1,34 @@
+-- Why no desk is listed.
+use Rattle.std.proofs.Common.{◌≡◌, ◌⊎◌, refl, sym, subst, inl, inr, Option, Some, None, Result, Ok, Err, IfErr, IsSomeAnd}
+use Rattle.std.specs.Option.{ok_or}
+use Rattle.tb_host.specs.Contents.{IsFailedCall, version_by}
+use Rattle.tb_host.specs.declared.causes.FileCause.{FileCause}
+use Rattle.tb_host.specs.declared.causes.FileCause.TheVariants.{OtherDatabase}
+use Rattle.tb_host.specs.declared.contents.Version.{Version}
+
+-- neither a log nor its file lists one
+pub by_none : (L : Type 0) (in_log in_file : Option Version) (result : Result Version FileCause)
+    → result ≡ version_by in_log in_file → (in_log ≡ None → L)
+    → IfErr result (λ cause. IsFailedCall cause ⊎ ((cause ≡ OtherDatabase) × (in_file ≡ None) × L))
+by_none L (Some v) in_file result is none = subst (λ r. IfErr r (λ cause. IsFailedCall cause ⊎ ((cause ≡ OtherDatabase) × (in_file ≡ None) × L))) (sym is) tt
+by_none L None (Some v) result is none = subst (λ r. IfErr r (λ cause. IsFailedCall cause ⊎ ((cause ≡ OtherDatabase) × (Some v ≡ None) × L))) (sym is) tt
+by_none L None None result is none = subst (λ r. IfErr r (λ cause. IsFailedCall cause ⊎ ((cause ≡ OtherDatabase) × (◌≡◌ {A = Option Version} None None) × L))) (sym is) (inr (refl, refl, none refl))
+
+-- a file lists none, and its log is odd
+pub by_odd : (P : FileCause → Type 0) (in_file : Option Version) (cause : FileCause) (result : Result Version FileCause)
+    → result ≡ ok_or in_file cause → P cause → IfErr result P
+by_odd P (Some v) cause result is p = subst (λ r. IfErr r P) (sym is) tt
+by_odd P None cause result is p = subst (λ r. IfErr r P) (sym is) p
+
+-- what is found has this
+pub some_there : {M : Type 0} (T : Option M → Type 0) (P : M → Type 0) (found : Option M) → IsSomeAnd found P → T found → (m : M) × T (Some m) × P m
+some_there T P (Some m) p t = (m, t, p)
+some_there T P None p t = absurd p
+
+-- the cause is that of a log, where a file lists none
+pub by_rest : (L : Type 0) (P : FileCause → Type 0) (in_file : Option Version) (result : Result Version FileCause)
+    → IfErr result (λ cause. IsFailedCall cause ⊎ ((cause ≡ OtherDatabase) × (in_file ≡ None) × L))
+    → ((cause : FileCause) → IsFailedCall cause → P cause) → (in_file ≡ None → L → P OtherDatabase) → IfErr result P
+by_rest L P in_file (Ok v) h failed other = tt
+by_rest L P in_file (Err cause) (inl h) failed other = failed cause h
+by_rest L P in_file (Err cause) (inr h) failed other = subst P (sym h.0) (other h.1 h.2)
