@@ -2,7 +2,7 @@
 use Rattle.std.proofs.Common.{◌≡◌, ℕ, List, length, Option, None, Result, Ok, Err, IfOk, IfErr, MatchResult, IsTrue, refl, ap, subst, inl, inr}
 use Rattle.sqlite.specs.Store.{Ghosts}
 use Rattle.sqlite.specs.Held.{state}
-use Rattle.tb_check.specs.Input.{IsInput}
+use Rattle.tb_check.specs.Input.{IsAskedFor, IsInput}
 use Rattle.tb_check.specs.declared.input.Input.{Input}
 use Rattle.tb_check.specs.declared.input.Input.TheVariants as input
 use Rattle.tb_core.specs.declared.limits.Limits.{Limits}
@@ -25,7 +25,7 @@ use Rattle.tb_answer.specs.Exported.{HasExport, IsExportOutput, IsExportResponse
 use Rattle.tb_answer.specs.Found.{CountText, IsCounted, IsCountOutput, IsCountResponse, IsReportedOfQuery}
 use Rattle.tb_answer.specs.Output.{IsWritten}
 use Rattle.tb_answer.specs.Responses.{IsResponse, IsSent, body_response, reply_response}
-use Rattle.tb_answer.specs.Taken.{IsBodyTaken, body_in}
+use Rattle.tb_answer.specs.Taken.{IsBodyAskedFor, IsBodyTaken, body_in}
 
 -- ---- the body of a line
 
@@ -34,6 +34,12 @@ body_taken is_failure limit old new (input.Whole body) h = h
 body_taken is_failure limit old new input.TooLong h = inl (refl, h)
 body_taken is_failure limit old new input.Memory h = inr (inl (refl, h))
 body_taken is_failure limit old new input.Broken h = inr (inr (refl, h))
+
+pub body_asked : (limit : ℕ) (old new : Option (List (List ℕ))) (i : Input) → IsAskedFor limit old new i → IsBodyAskedFor limit old new (body_in i)
+body_asked limit old new (input.Whole body) h = h
+body_asked limit old new input.TooLong h = λ other. h
+body_asked limit old new input.Memory h = λ other. h
+body_asked limit old new input.Broken h = λ other. absurd (other refl)
 
 -- what holds of a plain value holds of the code's value
 pub matched : {V E : Type 0} (items : V → List ℕ) (r : Result V E) (t : Result (List ℕ) E) (P : Result (List ℕ) E → Type 0) → MatchResult r (λ v. t ≡ Ok (items v)) (λ e. t ≡ Err e) → P t

@@ -12,7 +12,7 @@ use Rattle.tb_answer.specs.OnlyRead.{IsOnlyRead}
 pub only_asked : {S X : Type 0} {g : Ghosts S} {old new : Kept S} {read : Result X Fault} → IsQuestion g old new read → IsOnlyRead g old new
 only_asked asked = record {
   keeps_state = asked.keeps_state;
-  crash = ((asked.commits_nothing.clean, asked.commits_nothing.counts), asked.crash);
+  crash = ((asked.commits_nothing.clean, asked.commits_nothing.counts), asked.crash, asked.doubt);
   limits = asked.limits;
 }
 
@@ -23,6 +23,6 @@ survives_none g c P = record { clean = omega arith; shield = λ h. h; counts = o
 pub unread : {S : Type 0} (g : Ghosts S) (d : Kept S) → IsOnlyRead g d d
 unread g d = record {
   keeps_state = λ clean opened s stands. stands;
-  crash = ((omega arith, omega arith), λ s stands. survives_none g d.conn (λ _. ⊥));
+  crash = ((omega arith, omega arith), λ s stands. survives_none g d.conn (λ _. ⊥), refl);
   limits = refl;
 }

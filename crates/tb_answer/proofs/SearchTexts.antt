@@ -5,7 +5,7 @@ use Rattle.std.proofs.KnownBytes.{Appends-trans}
 use Rattle.sqlite.specs.Store.{Ghosts}
 use Rattle.sqlite.specs.Held.{state}
 use Rattle.sqlite.specs.State.{HasCleanDisk, Survives}
-use Rattle.sqlite.proofs.StateLemmas.{survives_then, survives_weaker}
+use Rattle.sqlite.proofs.StateLemmas.{survives_then}
 use Rattle.tb_conllu.specs.Text.{BlockText}
 use Rattle.tb_conllu.specs.Sunk.{AppendsPart}
 use Rattle.tb_match.specs.declared.strategy.Strategy.{Strategy}
@@ -126,15 +126,13 @@ module _ {Reason : Type 0} (Z cause : Type 0) (l : Limits) (s : Machine) (x : Se
   search_sent (Err r) sent is none found refused = inr (r, none, refused.1)
 
 module _ {S : Type 0} (g : Ghosts S) (a b : Kept S) (one : Survives (state g a.conn) (state g b.conn) (λ _. (state g a.conn).now.schema ≢ desk_schema)) where
-  -- one read
-  pub read_here : ReadsOnly g a b
-  read_here = ((one.clean, one.counts), λ s stands. survives_weaker (state g a.conn) (state g b.conn) _ _ (λ _ db other. other stands.desk.holds.schema) one)
-
-  -- and one after another
+  -- one read after another
   pub read_then : (c : Kept S) → (HasCleanDisk (state g b.conn) → (s : Machine) → Represents g a s → Represents g b s)
-      → Survives (state g b.conn) (state g c.conn) (λ _. (state g b.conn).now.schema ≢ desk_schema) → ReadsOnly g a c
-  read_then c stays two = (
+      → Survives (state g b.conn) (state g c.conn) (λ _. (state g b.conn).now.schema ≢ desk_schema) → c.in_doubt ≡ a.in_doubt
+      → ReadsOnly g a c
+  read_then c stays two doubt = (
     (le_trans one.clean two.clean, le_trans one.counts two.counts),
     λ s stands. survives_then (state g a.conn) (state g b.conn) (state g c.conn) _ _ _ (λ _ db other. other stands.desk.holds.schema)
         (λ clean db other. other (stays (omega (arith, clean, two.clean)) s stands).desk.holds.schema) one two,
+    doubt,
   )

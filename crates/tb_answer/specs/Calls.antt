@@ -98,9 +98,9 @@ abbrev pub HasNoNewFault : {S : Type 0} → Ghosts S → (old new : Kept S) → 
 HasNoNewFault g old new =
     ((state g new.conn).faults ≤ (state g old.conn).faults) × ((state g old.conn).faults < 2 ^ 64 - 1)
 
--- the call writes nothing that a crash could leave
+-- the call writes nothing that a crash could leave, and the desk is in doubt exactly where it was
 abbrev pub ReadsOnly : {S : Type 0} → Ghosts S → (old new : Kept S) → Type 0
-ReadsOnly g old new = ForgetsNothing g old new × WritesNothing g old new
+ReadsOnly g old new = ForgetsNothing g old new × WritesNothing g old new × (new.in_doubt ≡ old.in_doubt)
 
 -- A crash of a command leaves the tables of a state in which it ends. A question writes nothing.
 abbrev pub IsSafe : {S : Type 0} → Ghosts S → CallText → (old new : Kept S) → Type 0

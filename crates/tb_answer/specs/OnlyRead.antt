@@ -18,7 +18,7 @@ use Rattle.tb_answer.specs.Commanded.{HasFailed}
 pub record IsOnlyRead {S : Type 0} (g : Ghosts S) (old new : Kept S) : Type 0 where
   -- while the store is open, the desk represents the same state
   pub keeps_state : KeepsState g old new
-  -- a crash leaves what it could leave before
+  -- a crash leaves what it could leave before, and no doubt is raised or settled
   pub crash : ReadsOnly g old new
   pub limits : new.limits ≡ old.limits
 

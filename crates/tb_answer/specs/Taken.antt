@@ -1,9 +1,10 @@
 -- The body of a line: what it takes from its input.
-use Rattle.std.specs.Prelude.{◌≡◌, ◌≤◌, ◌<◌, ◌+◌, ◌⊎◌, ℕ, List, [], length, Bool, true}
+use Rattle.std.specs.Prelude.{◌≡◌, ◌≢◌, ◌≤◌, ◌<◌, ◌+◌, ◌⊎◌, ℕ, List, [], ◌∷◌, length, Bool, true}
 use Rattle.std.specs.Prelude.{false, Option, Result, Ok, Err}
 use Rattle.std.specs.Io.KnownBytes.{Consumes, IsAtEnd}
-use Rattle.tb_check.specs.Input.{TakenSome, IsBrokenWithin}
+use Rattle.tb_check.specs.Input.{CameInPieces, TakenSome, IsBrokenWithin}
 use Rattle.tb_check.specs.declared.input.Input.{Input}
+use Rattle.tb_conllu.specs.Pieces.{Gives}
 use Rattle.tb_check.specs.declared.input.Input.TheVariants as input
 use Rattle.tb_http.specs.declared.asks.RequestFault.TheVariants.{Long}
 use Rattle.tb_http.specs.declared.replies.Reply.{Reply}
@@ -32,6 +33,13 @@ IsBodyTaken is_failure limit old new (Err r) =
     ((r ≡ reply.Faulty Long) × TakenSome old new (λ n. n ≡ limit + 1))
     ⊎ ((r ≡ reply.Memory) × TakenSome old new (λ n. (0 < n) × (n ≤ limit + 1)))
     ⊎ ((r ≡ reply.Device) × IsBrokenWithin is_failure limit old new)
+
+-- What was asked of the reader for a body. What came whole came in pieces, and the last read gave nothing. A longer body,
+-- or one that memory ran out for, came in pieces too. Nothing is said of a reader that failed.
+abbrev pub IsBodyAskedFor : (limit : ℕ) → (old new : Option (List (List ℕ))) → Result (List ℕ) Reply → Type 0
+IsBodyAskedFor limit old new (Ok body) = (before : Option (List (List ℕ))) × CameInPieces limit old before body
+    × Gives before new ([] ∷ [])
+IsBodyAskedFor limit old new (Err r) = r ≢ reply.Device → (taken : List ℕ) × CameInPieces limit old new taken
 
 module _ {R Why : Type 0} (is_failure : R → Why → Type 0) (left : R
     → Option (List ℕ)) (limit : ℕ) (said : Said)

@@ -2,7 +2,7 @@
 
 ghost use Rattle.std.specs.Prelude.{◌≡◌, ◌≢◌, ℕ, List, None, Ok as OkOf, Err as ErrOf, IfOk, option_map, MatchResult};
 ghost use Rattle.tb_answer.specs.Prelude.{AnyRefusal, AnyStatus, Appends, BlamesNoDevice, Does, HasCleanDisk, InState};
-ghost use Rattle.tb_answer.specs.Prelude.{KnowsItself, Machine, Represents, state};
+ghost use Rattle.tb_answer.specs.Prelude.{HasReason, KnowsItself, Machine, Represents, state};
 ghost use Rattle.tb_answer.specs.Commanded.{HasFailed, IsFailure, IsNoRefusal, reply_for_export};
 ghost use Rattle.tb_answer.specs.Output.{IsWritten};
 ghost use Rattle.tb_answer.specs.Responses.{IsSent};
@@ -36,6 +36,7 @@ fn export<S: Alter, W: Sink>(
         → RefusesExport s (option_map (λ n. n.now) name.entry) r }
     ensures bad_name { IsNamedBadly (option_map (λ n. n.now) name.entry)
         → result ≡ ErrOf (Fault.Refused Refusal.BadName) }
+    ensures output { result ≡ ErrOf Fault.Output → HasReason (W.IsRefusal out.new) }
     ensures fails { KnowsItself S.Store desk.old desk.new result }
     ensures cause { BlamesNoDevice S.Store desk.old desk.new result }
     ensures read_only { IsOnlyRead S.Store desk.old desk.new }

@@ -1,9 +1,9 @@
 //! Runs a line of words on a desk.
 
-ghost use Rattle.std.specs.Prelude.{◌≡◌, MatchResult, Ok as Taken, Err as Untaken, option_map, string_bytes};
+ghost use Rattle.std.specs.Prelude.{◌≡◌, MatchResult, Ok as Taken, Err as Untaken, option_map, string_bytes, true};
 ghost use Rattle.tb_answer.specs.Prelude.{file_limit, InState, said_by};
 ghost use Rattle.tb_answer.specs.Commanded.{HasFailed};
-ghost use Rattle.tb_answer.specs.Taken.{IsTaken, WithTaken, body_in, has_body};
+ghost use Rattle.tb_answer.specs.Taken.{IsBodyAskedFor, IsTaken, WithTaken, body_in, has_body};
 ghost use Rattle.tb_answer.specs.Calls.{call_by, call_in};
 ghost use Rattle.tb_answer.specs.OnlyRead.{IsOnlyRead};
 ghost use Rattle.tb_answer.specs.Ran.{reading_by, reading_in, IsReadingRun, IsCalled, IsDone, IsRan, IsRanAs};
@@ -51,9 +51,12 @@ fn body_of(input: Input) -> Result<Vec<u8>, Reply>
 ///
 /// The reply that says why there is no body: it is longer, memory runs out, or the reader failed (`Device`).
 pub fn read_body<R: Source>(alloc: Global, line: &Line, reader: &mut R) -> Result<Vec<u8>, Reply>
-    ensures { MatchResult result
+    ensures taken { MatchResult result
         (λ v. IsTaken R.IsFailure R.left file_limit (said_by line.now) reader.old reader.new (Taken v.items))
         (λ r. IsTaken R.IsFailure R.left file_limit (said_by line.now) reader.old reader.new (Untaken r)) }
+    ensures asked { has_body (said_by line.now) ≡ true → MatchResult result
+        (λ v. IsBodyAskedFor file_limit (R.pieces reader.old) (R.pieces reader.new) (Taken v.items))
+        (λ r. IsBodyAskedFor file_limit (R.pieces reader.old) (R.pieces reader.new) (Untaken r)) }
 {
     if !has_body(line) {
         return Ok(Vec::new(alloc));
@@ -236,6 +239,8 @@ pub fn run_line_from<S: Alter, R: Source, W: Sink>(
         (W.held out.old) (W.held out.new) (W.IsRefusal out.new) result)) }
     ensures crash { WithTaken R.IsFailure R.left file_limit (said_by line.now) reader.old reader.new (λ taken.
         IsLineSafe S.Store (said_by line.now) taken desk.old desk.new) }
+    ensures asked { has_body (said_by line.now) ≡ true → WithTaken R.IsFailure R.left file_limit (said_by line.now)
+        reader.old reader.new (IsBodyAskedFor file_limit (R.pieces reader.old) (R.pieces reader.new)) }
     ensures limits { desk.new.limits ≡ desk.old.limits }
 {
     let body = read_body(alloc, line, reader);

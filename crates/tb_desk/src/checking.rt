@@ -1,16 +1,15 @@
 //! The check of a file, with the words for its answer while the file is at hand.
 
-ghost use Rattle.std.specs.Prelude.{◌≡◌, None, IfSome};
+ghost use Rattle.std.specs.Prelude.{◌≡◌, MatchOption, None};
 ghost use Rattle.tb_check.specs.Check.{Answers, IsReplyToTaken, IsWritten, file_limit, reply_text, status_of};
-ghost use Rattle.tb_desk.specs.Explaining.{reply_as_the_desk};
-ghost use Rattle.tb_host.specs.Reported.{IsOfAnswer};
+ghost use Rattle.tb_desk.specs.Explaining.{IsExplained, reply_as_the_desk};
 
-use crate::explaining::reported_of_reply;
+use crate::explaining::explained;
 use std::alloc::Global;
 use tb_check::{CheckReply, FILE_LIMIT, Input, check_input, put_reply, read_all};
 use tb_conllu::{Sink, Source};
 use tb_core::Refusal;
-use tb_host::{Diagnostic, Outcome};
+use tb_host::{Diagnostic, Outcome, wants_words};
 use tb_http::{Reply, RequestFault};
 use tb_words::Asked;
 
@@ -46,19 +45,21 @@ fn reply_for(reply: CheckReply) -> Option<Reply>
     }
 }
 
-/// What there is to say of a reply to what was read of an input.
+/// What there is to say of a reply to what was read of an input, where words are wanted.
 pub(crate) fn reported_of_check(
-    rt: &HostRuntime,
+    alloc: Global,
+    is_wanted: bool,
     reply: CheckReply,
     input: &Input,
 ) -> Option<Diagnostic>
-    ensures none { reply_as_the_desk reply ≡ None → result ≡ None }
-    ensures words { IfSome result (λ d. IsOfAnswer d.cause) }
+    ensures { MatchOption (reply_as_the_desk reply) (result ≡ None) (λ r. IsExplained is_wanted r result) }
 {
-    let reply = reply_for(reply)?;
+    let Some(reply) = reply_for(reply) else {
+        return None;
+    };
     match input {
-        Input::Whole(file) => reported_of_reply(rt, reply, file.as_slice(), Asked::Other),
-        _ => reported_of_reply(rt, reply, &[], Asked::Other),
+        Input::Whole(file) => explained(alloc, is_wanted, reply, file.as_slice(), Asked::Other),
+        _ => explained(alloc, is_wanted, reply, &[], Asked::Other),
     }
 }
 
@@ -82,6 +83,6 @@ pub(crate) fn check_reported<R: Source, S: Sink>(
     let Checked { reply, input } = check_source(rt.alloc(), source);
     Outcome {
         status: put_check(out, reply),
-        reported: reported_of_check(rt, reply, &input),
+        reported: reported_of_check(rt.alloc(), wants_words(rt), reply, &input),
     }
 }

@@ -11,7 +11,7 @@ use std::alloc::Global;
 use tb_answer::put_body;
 use tb_check::{CheckReply, FILE_LIMIT, Input, check_file, read_all};
 use tb_conllu::{Sink, Source};
-use tb_host::Outcome;
+use tb_host::{Outcome, wants_words};
 use tb_report::trees_page;
 
 /// The page of the trees of these sentences.
@@ -69,7 +69,7 @@ fn answer_input<S: Sink>(rt: &HostRuntime, input: &Input, out: &mut S) -> Outcom
         Ok(page) => Outcome::from(put_body(out, page.as_slice())),
         Err(reply) => Outcome {
             status: put_check(out, reply),
-            reported: reported_of_check(rt, reply, input),
+            reported: reported_of_check(rt.alloc(), wants_words(rt), reply, input),
         },
     }
 }

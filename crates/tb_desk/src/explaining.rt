@@ -7,7 +7,6 @@ ghost use Rattle.tb_cli.specs.Lines.{said_by};
 ghost use Rattle.tb_answer.specs.declared.ending.Ending.TheVariants.{BrokenOff};
 ghost use Rattle.tb_answer.specs.declared.written.Written.TheVariants.{Found, Reply as Replied};
 ghost use Rattle.tb_http.specs.declared.replies.Reply.{Reply as AnyReply};
-ghost use Rattle.tb_words.specs.Explained.{is_explained};
 ghost use Rattle.tb_desk.specs.Explaining.{IsAskedBy, IsExplained, IsExplainedAs};
 ghost use Rattle.tb_host.specs.Reported.{IsOfAnswer, IsReported};
 ghost use Rattle.tb_host.specs.declared.causes.FileCause.{FileCause as AnyFileCause};
@@ -27,7 +26,7 @@ use tb_store::Desk;
 use tb_words::{Asked, Words, words_of_reply};
 
 /// The words for a reply, where words are wanted.
-fn explained(
+pub(crate) fn explained(
     alloc: Global,
     is_wanted: bool,
     reply: Reply,
@@ -43,19 +42,6 @@ fn explained(
         Some(words) => Some(Diagnostic::from(Cause::Words(words))),
         None => None,
     }
-}
-
-/// The words for a reply, where the system says that words are wanted.
-pub(crate) fn reported_of_reply(
-    rt: &HostRuntime,
-    reply: Reply,
-    body: &[u8],
-    asked: Asked<'_>,
-) -> Option<Diagnostic>
-    ensures words { IfSome result (λ d. IsOfAnswer d.cause) }
-    ensures none { is_explained reply ≡ false → result ≡ None }
-{
-    explained(rt.alloc(), wants_words(rt), reply, body, asked)
 }
 
 /// What a line asks, as far as the words for a refusal depend on it.

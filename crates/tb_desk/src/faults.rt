@@ -2,12 +2,12 @@
 
 ghost use Rattle.tb_desk.specs.Faults.{AreFaultsListed, IsFileAnswered, IsInputAnswered};
 
-use crate::explaining::reported_of_reply;
+use crate::explaining::explained;
 use crate::memory::put_memory;
 use tb_answer::{put_reply, put_text};
 use tb_check::{FILE_LIMIT, Input, read_all};
 use tb_conllu::{Sink, Source};
-use tb_host::Outcome;
+use tb_host::{Outcome, wants_words};
 use tb_http::{Reply, RequestFault};
 use tb_words::{Asked, list_faults};
 
@@ -34,7 +34,7 @@ fn answer_input<S: Sink>(rt: &HostRuntime, input: &Input, most: u32, out: &mut S
             let long = Reply::Faulty(RequestFault::Long);
             Outcome {
                 status: put_reply(out, long),
-                reported: reported_of_reply(rt, long, &[], Asked::Other),
+                reported: explained(rt.alloc(), wants_words(rt), long, &[], Asked::Other),
             }
         }
         Input::Memory => put_memory(out),

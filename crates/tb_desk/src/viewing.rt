@@ -12,7 +12,7 @@ ghost use Rattle.tb_desk.specs.Viewing.{AreWordsShown, IsAskedOf, IsListRun, IsS
 ghost use Rattle.tb_desk.specs.Viewing.{lacking};
 
 use crate::drawing::draw_trees_of;
-use crate::explaining::reported_of_reply;
+use crate::explaining::explained;
 use crate::faults::list_faults_of;
 use crate::memory::put_memory;
 use crate::programs::Program;
@@ -24,7 +24,7 @@ use std::io::Write;
 use tb_answer::{put_body, put_reply, view};
 use tb_cli::{LineFault, ViewLine, ViewList};
 use tb_conllu::{Sink, Source};
-use tb_host::{Cause, Diagnostic, Outcome, files, wrong_value};
+use tb_host::{Cause, Diagnostic, Outcome, files, wants_words, wrong_value};
 use tb_store::Desk;
 use tb_words::Asked;
 
@@ -103,7 +103,7 @@ fn show<S: Alter, W: Sink>(
         },
         Err(reply) => Outcome {
             status: put_reply(out, reply),
-            reported: reported_of_reply(rt, reply, &[], asked_of(list)),
+            reported: explained(rt.alloc(), wants_words(rt), reply, &[], asked_of(list)),
         },
     }
 }

@@ -17,10 +17,10 @@ returns-in-Ok-clause-ended g c =
         opened = c.in-Ok.opened;
         ended = record { desk = c.run_on_desk-outcome.new.desk };
         is = c.in-Ok.ensures.desk;
-        ran = (taken_of (λ v. v.items) c.read_body-body.result, taken_so (λ v. v.items) c.read_body-body.result taken c.read_body-body.ensures, ran.1);
+        ran = (taken_of (λ v. v.items) c.read_body-body.result, taken_so (λ v. v.items) c.read_body-body.result taken c.read_body-body.ensures.taken, ran.1);
       })
     ]
 
 pub returns-in-Ok-clause-input : goal.returns-in-Ok-clause-input
 returns-in-Ok-clause-input g c =
-    input_left g.R.Source.IsFailure g.R.Source.left file_limit (said_by c.args.line.now) c.args.reader.now c.read_body-body.new.reader (λ v. v.items) c.read_body-body.result c.read_body-body.ensures
+    input_left g.R.Source.IsFailure g.R.Source.left file_limit (said_by c.args.line.now) c.args.reader.now c.read_body-body.new.reader (λ v. v.items) c.read_body-body.result c.read_body-body.ensures.taken
