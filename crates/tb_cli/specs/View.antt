@@ -9,10 +9,22 @@ use Rattle.tb_cli.specs.declared.lines.ViewLine.{ViewLine}
 use Rattle.tb_cli.specs.declared.lines.ViewLine.TheVariants as line
 use Rattle.tb_cli.specs.declared.lines.ViewList.{ViewList}
 use Rattle.tb_cli.specs.declared.lines.ViewList.TheVariants as list
+use Rattle.tb_cli.specs.declared.view_verbs.ViewVerb.{ViewVerb}
+use Rattle.tb_cli.specs.declared.view_verbs.ViewVerb.TheVariants as verb
 
 -- the program's name and version
 abbrev pub view_top : App
 view_top = record { top = record (new_app (codes "deskview")).top { has_version = true }; subs = [] }
+
+-- the word of each command
+abbrev pub view_word : ViewVerb → Text
+view_word verb.Batches = codes "batches"
+view_word verb.Sentences = codes "sentences"
+view_word verb.Revisions = codes "revisions"
+view_word verb.Find = codes "find"
+view_word verb.Tree = codes "tree"
+view_word verb.Check = codes "check"
+view_word verb.Page = codes "page"
 
 abbrev pub batches_app : App
 batches_app = with_db (new_app (codes "batches"))

@@ -3,59 +3,24 @@
 ghost use Rattle.std.specs.Prelude.{◌≡◌, IfOk, Some, false, codes, option_map};
 ghost use Rattle.clap.specs.Words.{app_of, rule_of, new_app, with_rule, with_subcommand};
 ghost use Rattle.clap.specs.declared.Command.TheViews.{out-Command};
-ghost use Rattle.tb_cli.specs.Help.{about_text};
-ghost use Rattle.tb_cli.specs.Tree.{option_rule, needed_rule, default_rule, word_rule, optional_rule, word_of};
+ghost use Rattle.tb_cli.specs.Arguments.{argument_rule};
+ghost use Rattle.tb_cli.specs.Help.{about_text, ending_text, IsExplainedBy};
 ghost use Rattle.tb_cli.specs.Tree.{with_db, with_db_and_user, with_db_and_strategy, with_user_and_word, with_query};
 ghost use Rattle.tb_cli.specs.Tree.{in_file_app, event_app, correct_app, show_app, export_app, search_app, count_app};
-ghost use Rattle.tb_cli.specs.Tree.{serve_app, top_app, app_by, desk_app, IsKnownAs, HasRule};
+ghost use Rattle.tb_cli.specs.Tree.{serve_app, top_app, app_by, desk_app, word_of, IsKnownAs};
+ghost use Rattle.tb_cli.specs.declared.help.TheConstants.{ABOUT, ENDING};
+ghost use Rattle.tb_cli.specs.declared.tree.TheConstants.{VERSION};
 
-use crate::help::{ENDING, about, ending};
+use crate::arguments::{Argument, arg_of};
+use crate::help::{ABOUT, ENDING, about, ending};
 use crate::verbs::{VERBS, Verb, word_of};
 use clap::{Arg, Command};
 use std::alloc::{AllocError, Global};
 
-/// An option that takes a value.
-pub(crate) fn option<'a>(alloc: Global, name: &'a str, help: &'a str) -> Arg<'a>
-    ensures { HasRule (option_rule name.entry.now) result }
-{
-    Arg::new(alloc, name).long(name).help(help)
-}
-
-/// An option that is required.
-pub(crate) fn needed<'a>(alloc: Global, name: &'a str, help: &'a str) -> Arg<'a>
-    ensures { HasRule (needed_rule name.entry.now) result }
-{
-    Arg::new(alloc, name).long(name).required(true).help(help)
-}
-
-/// An option with a default.
-pub(crate) fn defaulted<'a>(alloc: Global, name: &'a str, value: &'a str, help: &'a str) -> Arg<'a>
-    ensures { HasRule (default_rule name.entry.now value.entry.now) result }
-{
-    Arg::new(alloc, name)
-        .long(name)
-        .default_value(value)
-        .help(help)
-}
-
-/// A word that is required.
-pub(crate) fn word<'a>(alloc: Global, name: &'a str, help: &'a str) -> Arg<'a>
-    ensures { HasRule (word_rule name.entry.now) result }
-{
-    Arg::new(alloc, name).required(true).help(help)
-}
-
-/// A word that may be missing.
-pub(crate) fn optional<'a>(alloc: Global, name: &'a str, help: &'a str) -> Arg<'a>
-    ensures { HasRule (optional_rule name.entry.now) result }
-{
-    Arg::new(alloc, name).help(help)
-}
-
 /// A command with its help, and without an argument.
 fn command<'a>(alloc: Global, verb: Verb) -> Command<'a>
     ensures known { IsKnownAs (new_app (word_of verb)) result }
-    ensures about { option_map (λ text. text.now) (out-Command result).about ≡ Some (about_text verb) }
+    ensures help { IsExplainedBy (about_text verb) (ending_text verb) result }
 {
     Command::new(alloc, word_of(verb))
         .about(about(verb))
@@ -86,86 +51,79 @@ pub(crate) fn with_sub<'a>(
 fn with_db<'a>(alloc: Global, verb: Verb) -> Result<Command<'a>, AllocError>
     ensures { IfOk result (IsKnownAs (with_db (new_app (word_of verb)))) }
 {
-    let help = "The file of the desk; without it a desk in memory";
-    with(command(alloc, verb), option(alloc, "db", help))
+    with(command(alloc, verb), arg_of(alloc, Argument::Desk))
 }
 
 fn with_db_and_user<'a>(alloc: Global, verb: Verb) -> Result<Command<'a>, AllocError>
     ensures { IfOk result (IsKnownAs (with_db_and_user (new_app (word_of verb)))) }
 {
-    with(with_db(alloc, verb)?, needed(alloc, "user", "Who asks"))
+    with(with_db(alloc, verb)?, arg_of(alloc, Argument::User))
 }
 
 fn with_db_and_strategy<'a>(alloc: Global, verb: Verb) -> Result<Command<'a>, AllocError>
     ensures { IfOk result (IsKnownAs (with_db_and_strategy (new_app (word_of verb)))) }
 {
-    let help = "Which matches are hits: shortest, longest or every";
-    with(
-        with_db(alloc, verb)?,
-        defaulted(alloc, "strategy", "longest", help),
-    )
+    with(with_db(alloc, verb)?, arg_of(alloc, Argument::Strategy))
 }
 
 /// A command that works on a file and requires `--db`.
 fn in_file<'a>(alloc: Global, verb: Verb) -> Result<Command<'a>, AllocError>
     ensures { IfOk result (IsKnownAs (in_file_app (word_of verb))) }
 {
-    with(
-        command(alloc, verb),
-        needed(alloc, "db", "The file of the desk"),
-    )
+    with(command(alloc, verb), arg_of(alloc, Argument::DeskNeeded))
 }
 
-/// A command by a user on what a word names.
+/// A command by a user on what this argument names.
 fn with_user_and_word<'a>(
     alloc: Global,
     verb: Verb,
-    name: &'a str,
-    help: &'a str,
+    word: Argument,
 ) -> Result<Command<'a>, AllocError>
-    ensures { IfOk result (IsKnownAs (with_user_and_word (word_of verb) name.entry.now)) }
+    ensures { IfOk result (IsKnownAs (with_rule (with_db_and_user (new_app (word_of verb))) (argument_rule word))) }
 {
-    with(with_db_and_user(alloc, verb)?, word(alloc, name, help))
+    with(with_db_and_user(alloc, verb)?, arg_of(alloc, word))
 }
 
 fn event<'a>(alloc: Global) -> Result<Command<'a>, AllocError>
     ensures { IfOk result (IsKnownAs event_app) }
 {
-    let command = with_user_and_word(alloc, Verb::Event, "name", "The name of the batch")?;
-    with(command, word(alloc, "event", "The step"))
+    let command = with_user_and_word(alloc, Verb::Event, Argument::Batch)?;
+    with(command, arg_of(alloc, Argument::Step))
 }
 
 fn correct<'a>(alloc: Global) -> Result<Command<'a>, AllocError>
     ensures { IfOk result (IsKnownAs correct_app) }
 {
-    let base = word(
-        alloc,
-        "base",
-        "The number of the revision that was corrected",
-    );
-    with(on_sentence(alloc, Verb::Correct)?, base)
+    with(
+        on_sentence(alloc, Verb::Correct)?,
+        arg_of(alloc, Argument::Base),
+    )
 }
 
 /// A command by a user on a sentence.
 fn on_sentence<'a>(alloc: Global, verb: Verb) -> Result<Command<'a>, AllocError>
     ensures { IfOk result (IsKnownAs (with_user_and_word (word_of verb) (codes "no"))) }
 {
-    with_user_and_word(alloc, verb, "no", "The number of the sentence")
+    with_user_and_word(alloc, verb, Argument::Sentence)
 }
 
 fn show<'a>(alloc: Global) -> Result<Command<'a>, AllocError>
     ensures { IfOk result (IsKnownAs show_app) }
 {
-    let rev = "The number of the revision; without it the current one";
-    let command = with(with_db(alloc, Verb::Show)?, option(alloc, "rev", rev))?;
-    with(command, word(alloc, "no", "The number of the sentence"))
+    let command = with(
+        with_db(alloc, Verb::Show)?,
+        arg_of(alloc, Argument::Revision),
+    )?;
+    with(command, arg_of(alloc, Argument::Sentence))
 }
 
 fn export<'a>(alloc: Global) -> Result<Command<'a>, AllocError>
     ensures { IfOk result (IsKnownAs export_app) }
 {
-    let name = "The name of the batch; without it the released sentences";
-    with(with_db(alloc, Verb::Export)?, optional(alloc, "name", name))
+    with(
+        with_db(alloc, Verb::Export)?,
+        arg_of(alloc, Argument::BatchIfAny),
+    )
 }
 
 /// Adds the query to the command, as its last word.
@@ -173,8 +131,7 @@ fn with_query<'a>(alloc: Global, command: Command<'a>) -> Result<Command<'a>, Al
     requires whole { (out-Command command).has_globals ≡ false }
     ensures { IfOk result (IsKnownAs (with_query (app_of command.entry))) }
 {
-    let help = "The query, in the part of CQP that docs/guide/QUERIES.md describes";
-    with(command, word(alloc, "query", help))
+    with(command, arg_of(alloc, Argument::Query))
 }
 
 fn search<'a>(alloc: Global) -> Result<Command<'a>, AllocError>
@@ -182,12 +139,7 @@ fn search<'a>(alloc: Global) -> Result<Command<'a>, AllocError>
 {
     let command = with(
         with_db_and_strategy(alloc, Verb::Search)?,
-        defaulted(
-            alloc,
-            "context",
-            "5",
-            "Words on each side of a match, 0 to 20",
-        ),
+        arg_of(alloc, Argument::Context),
     )?;
     with_query(alloc, command)
 }
@@ -195,10 +147,9 @@ fn search<'a>(alloc: Global) -> Result<Command<'a>, AllocError>
 fn count<'a>(alloc: Global) -> Result<Command<'a>, AllocError>
     ensures { IfOk result (IsKnownAs count_app) }
 {
-    let attribute = "What is counted: word, lemma, upos, xpos, feats or deprel";
     let command = with(
         with_db_and_strategy(alloc, Verb::Count)?,
-        word(alloc, "attribute", attribute),
+        arg_of(alloc, Argument::Attribute),
     )?;
     with_query(alloc, command)
 }
@@ -206,19 +157,8 @@ fn count<'a>(alloc: Global) -> Result<Command<'a>, AllocError>
 fn serve<'a>(alloc: Global) -> Result<Command<'a>, AllocError>
     ensures { IfOk result (IsKnownAs serve_app) }
 {
-    let command = with(
-        with_db(alloc, Verb::Serve)?,
-        needed(alloc, "port", "The port; 0 lets the system choose one"),
-    )?;
-    with(
-        command,
-        defaulted(
-            alloc,
-            "requests",
-            "1000000000",
-            "How many connections are answered before it ends",
-        ),
-    )
+    let command = with(with_db(alloc, Verb::Serve)?, arg_of(alloc, Argument::Port))?;
+    with(command, arg_of(alloc, Argument::Requests))
 }
 
 /// A command, as it is declared to clap.
@@ -229,7 +169,7 @@ fn subcommand<'a>(alloc: Global, verb: Verb) -> Result<Command<'a>, AllocError>
         Verb::Check => Ok(command(alloc, verb)),
         Verb::New => in_file(alloc, verb),
         Verb::Migrate => in_file(alloc, verb),
-        Verb::Import => with_user_and_word(alloc, verb, "name", "The name of the new batch"),
+        Verb::Import => with_user_and_word(alloc, verb, Argument::BatchNew),
         Verb::Event => event(alloc),
         Verb::Correct => correct(alloc),
         Verb::Pull => on_sentence(alloc, verb),
@@ -250,13 +190,13 @@ pub(crate) const VERSION: &str = "0.1.0\nproved with rattle-kit-13f logic dac820
 
 /// The program's name, its version and what its help says.
 fn top<'a>(alloc: Global) -> Command<'a>
-    ensures { IsKnownAs top_app result }
+    ensures known { IsKnownAs top_app result }
+    ensures help { IsExplainedBy ABOUT.now ENDING.now result }
+    ensures version { option_map (λ text. text.now) (out-Command result).version ≡ Some VERSION.now }
 {
     Command::new(alloc, "treedesk")
         .version(VERSION)
-        .about(
-            "A treebank desk for CoNLL-U files: check, import, correct, release, search and count",
-        )
+        .about(ABOUT)
         .after_help(ENDING)
 }
 

@@ -1,4 +1,10 @@
-//! The texts of help of `deskview`.
+//! The texts of help of `deskview`: of the whole command, and of each command.
+
+ghost use Rattle.std.specs.Prelude.{◌≡◌};
+ghost use Rattle.tb_cli.specs.Help.{view_about_text, view_ending_text};
+
+use crate::view_verbs::ViewVerb;
+use crate::{view_abouts, view_endings};
 
 /// The text of help after the list of commands.
 pub const ENDING: &str = "\
@@ -26,73 +32,36 @@ Exit status:
 Environment:
   TREEDESK_EXPLAIN=1  explain each refusal on standard error, also where that is no terminal";
 
-/// The end of the help of `batches`.
-pub const BATCHES: &str = "\
-Columns: no, name, state, worker, first, sentences, words, pulled, pulled_words. `first` is the number of the
-first sentence. `sentences` and `words` leave out pulled sentences, which `pulled` and `pulled_words` count.
+/// What deskview does.
+pub(crate) const ABOUT: &str =
+    "Lists and trees of what a treebank desk holds, the faults of a file, and the desk in a browser";
 
-Example: deskview batches --db desk.db
+/// What a command of deskview does, as the list of commands shows it.
+pub(crate) fn view_about<'a>(verb: ViewVerb) -> &'a str
+    ensures { result.now ≡ view_about_text verb }
+{
+    match verb {
+        ViewVerb::Batches => view_abouts::BATCHES,
+        ViewVerb::Sentences => view_abouts::SENTENCES,
+        ViewVerb::Revisions => view_abouts::REVISIONS,
+        ViewVerb::Find => view_abouts::FIND,
+        ViewVerb::Tree => view_abouts::TREE,
+        ViewVerb::Check => view_abouts::CHECK,
+        ViewVerb::Page => view_abouts::PAGE,
+    }
+}
 
-Exit status: 0 done, 1 refused, 2 wrong words, 3 out of memory or an I/O error.";
-
-/// The end of the help of `sentences`.
-pub const SENTENCES: &str = "\
-Columns: no, sent_id, rev, who, words, pulled, text. `rev` is the number of the current revision, `who` wrote
-it, `words` counts its words, and `text` is its comment `# text`. `pulled` is `yes` or `no`.
-
-Example: deskview sentences --db desk.db news
-
-Exit status: 0 done, 1 refused, 2 wrong words, 3 out of memory or an I/O error.";
-
-/// The end of the help of `revisions`.
-pub const REVISIONS: &str = "\
-Columns: rev, who, kind, move. `rev` counts from 1, `who` wrote the revision, and `move` is the number of
-the move that made it, as `treedesk moves` lists it: the import of the batch, then a correction for each.
-
-Example: deskview revisions --db desk.db 7
-
-Exit status: 0 done, 1 refused, 2 wrong words, 3 out of memory or an I/O error.";
-
-/// The end of the help of `find`.
-pub const FIND: &str = "\
-Columns: no, batch, rev, words, pulled. `no` is the number that `treedesk show` takes and `batch` the name of
-the batch, `rev` is the number of the current revision, `words` counts its words, and `pulled` is `yes` or `no`.
-
-Example: deskview find --db desk.db en-7
-
-Exit status: 0 done, 1 refused, 2 wrong words, 3 out of memory or an I/O error.";
-
-/// The end of the help of `tree`.
-pub const TREE: &str = "\
-Prints a page of HTML, which stands alone: it draws dependency trees, and asks no other file or computer for anything.
-With --db and a number it is the tree of that sentence's current revision. With neither it is those of all sentences of
-the CoNLL-U file on standard input; one that `treedesk check` refuses is refused as there, and nothing is drawn. Print
-the page from a browser, as a handout.
-
-Examples:
-  deskview tree --db desk.db 7 > tree.html
-  deskview tree < news.conllu > trees.html
-
-Exit status: 0 done, 1 refused, 2 wrong words, 3 out of memory or an I/O error.";
-
-/// The end of the help of `check`.
-pub const CHECK: &str = "\
-Columns: line, code, sentence, rule, row, id, column, value, message. Where a line cannot be read, each such line is listed
-with the least of its codes, 1 to 10. Where all can be read, each sentence is listed with all rules that it breaks, of 1
-to 12. docs/guide/FORMAT.md has the codes and the rules. `row` is the first row at fault of rules 4 to 8, and `id` its ID.
-
-Where there are more faults than --most allows, a last row has the message alone, which says so. A file without faults
-gives the header line alone, so that every answer about a file is a table.
-
-Example: deskview check --most 20 < news.conllu
-
-Exit status: 0 no fault, 1 faults, or refused, 2 wrong words, 3 out of memory or an I/O error.";
-
-/// The end of the help of `page`.
-pub const PAGE: &str = "\
-Prints `listening PORT`, and serves a page for browsers at http://127.0.0.1:PORT/ beside what `treedesk serve` serves. On
-port 0 the system chooses the port. There is no password: every user of this machine can read and change the desk.
-
-Example: deskview page --db desk.db --port 8080
-
-Exit status: 1 refused, 2 wrong words, 3 out of memory or an I/O error.";
+/// The end of the help of a command of deskview.
+pub(crate) fn view_ending<'a>(verb: ViewVerb) -> &'a str
+    ensures { result.now ≡ view_ending_text verb }
+{
+    match verb {
+        ViewVerb::Batches => view_endings::BATCHES,
+        ViewVerb::Sentences => view_endings::SENTENCES,
+        ViewVerb::Revisions => view_endings::REVISIONS,
+        ViewVerb::Find => view_endings::FIND,
+        ViewVerb::Tree => view_endings::TREE,
+        ViewVerb::Check => view_endings::CHECK,
+        ViewVerb::Page => view_endings::PAGE,
+    }
+}

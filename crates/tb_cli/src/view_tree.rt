@@ -1,112 +1,110 @@
 //! The commands of `deskview`, declared to clap.
 
-ghost use Rattle.std.specs.Prelude.{◌≡◌, IfOk};
-ghost use Rattle.clap.specs.Words.{app_of, new_app};
+ghost use Rattle.std.specs.Prelude.{◌≡◌, IfOk, Some, option_map};
+ghost use Rattle.clap.specs.Words.{app_of, new_app, with_rule};
+ghost use Rattle.clap.specs.declared.Command.TheViews.{out-Command};
+ghost use Rattle.tb_cli.specs.Arguments.{argument_rule};
+ghost use Rattle.tb_cli.specs.Help.{view_about_text, view_ending_text, IsExplainedBy};
 ghost use Rattle.tb_cli.specs.Tree.{with_db, IsKnownAs};
 ghost use Rattle.tb_cli.specs.View.{batches_app, check_app, find_app, lists_app, page_app, revisions_app};
-ghost use Rattle.tb_cli.specs.View.{sentences_app, tree_app, view_app, view_top};
+ghost use Rattle.tb_cli.specs.View.{sentences_app, tree_app, view_app, view_top, view_word};
+ghost use Rattle.tb_cli.specs.declared.tree.TheConstants.{VERSION};
+ghost use Rattle.tb_cli.specs.declared.view_help.TheConstants.{ABOUT, ENDING};
 
-use crate::tree::{VERSION, defaulted, needed, option, optional, with, with_sub, word};
-use crate::view_help::{BATCHES, CHECK, ENDING, FIND, PAGE, REVISIONS, SENTENCES, TREE};
+use crate::arguments::{Argument, arg_of};
+use crate::tree::{VERSION, with, with_sub};
+use crate::view_help::{ABOUT, ENDING, view_about, view_ending};
+use crate::view_verbs::{ViewVerb, view_word};
 use clap::Command;
 use std::alloc::{AllocError, Global};
 
 /// The program's name, its version and what its help says.
 fn top<'a>(alloc: Global) -> Command<'a>
-    ensures { IsKnownAs view_top result }
+    ensures known { IsKnownAs view_top result }
+    ensures help { IsExplainedBy ABOUT.now ENDING.now result }
+    ensures version { option_map (λ text. text.now) (out-Command result).version ≡ Some VERSION.now }
 {
     Command::new(alloc, "deskview")
         .version(VERSION)
-        .about(
-            "Lists and trees of what a treebank desk holds, the faults of a file, and the desk in a browser",
-        )
+        .about(ABOUT)
         .after_help(ENDING)
 }
 
-/// A command that reads the desk in a file.
-fn reading<'a>(
-    alloc: Global,
-    name: &'a str,
-    about: &'a str,
-    ending: &'a str,
-) -> Result<Command<'a>, AllocError>
-    ensures { IfOk result (IsKnownAs (with_db (new_app name.entry.now))) }
+/// A command with its help, and without an argument.
+fn command<'a>(alloc: Global, verb: ViewVerb) -> Command<'a>
+    ensures known { IsKnownAs (new_app (view_word verb)) result }
+    ensures help { IsExplainedBy (view_about_text verb) (view_ending_text verb) result }
 {
-    let command = Command::new(alloc, name).about(about).after_help(ending);
-    with(
-        command,
-        option(
-            alloc,
-            "db",
-            "The file of the desk, which this command needs",
-        ),
-    )
+    Command::new(alloc, view_word(verb))
+        .about(view_about(verb))
+        .after_help(view_ending(verb))
+}
+
+/// A command that reads the desk in a file.
+fn reading<'a>(alloc: Global, verb: ViewVerb) -> Result<Command<'a>, AllocError>
+    ensures { IfOk result (IsKnownAs (with_db (new_app (view_word verb)))) }
+{
+    with(command(alloc, verb), arg_of(alloc, Argument::DeskShown))
+}
+
+/// A command that reads the desk in a file, and takes one argument more.
+fn reading_with<'a>(
+    alloc: Global,
+    verb: ViewVerb,
+    which: Argument,
+) -> Result<Command<'a>, AllocError>
+    ensures { IfOk result (IsKnownAs (with_rule (with_db (new_app (view_word verb))) (argument_rule which))) }
+{
+    with(reading(alloc, verb)?, arg_of(alloc, which))
 }
 
 fn batches<'a>(alloc: Global) -> Result<Command<'a>, AllocError>
     ensures { IfOk result (IsKnownAs batches_app) }
 {
-    let about = "List the batches, each with its state, its worker and its counts";
-    reading(alloc, "batches", about, BATCHES)
+    reading(alloc, ViewVerb::Batches)
 }
 
 fn sentences<'a>(alloc: Global) -> Result<Command<'a>, AllocError>
     ensures { IfOk result (IsKnownAs sentences_app) }
 {
-    let about = "List the sentences of a batch, each with its current revision";
-    let command = reading(alloc, "sentences", about, SENTENCES)?;
-    with(command, word(alloc, "name", "The name of the batch"))
+    reading_with(alloc, ViewVerb::Sentences, Argument::Batch)
 }
 
 fn revisions<'a>(alloc: Global) -> Result<Command<'a>, AllocError>
     ensures { IfOk result (IsKnownAs revisions_app) }
 {
-    let about = "List the revisions of a sentence, each with its user and the move that made it";
-    let command = reading(alloc, "revisions", about, REVISIONS)?;
-    with(command, word(alloc, "no", "The number of the sentence"))
+    reading_with(alloc, ViewVerb::Revisions, Argument::Sentence)
 }
 
 fn find<'a>(alloc: Global) -> Result<Command<'a>, AllocError>
     ensures { IfOk result (IsKnownAs find_app) }
 {
-    let about = "Find the sentence with a sent_id: its number, its batch and its current revision";
-    let command = reading(alloc, "find", about, FIND)?;
-    with(
-        command,
-        word(alloc, "sent_id", "The sent_id, as hits have it"),
-    )
+    reading_with(alloc, ViewVerb::Find, Argument::SentId)
 }
 
 fn tree<'a>(alloc: Global) -> Result<Command<'a>, AllocError>
     ensures { IfOk result (IsKnownAs tree_app) }
 {
-    let about =
-        "Draw the dependency tree of a sentence, or the trees of a file, as a page for a browser";
-    let db = "The file of the desk; without it the CoNLL-U file on standard input";
-    let no = "The number of the sentence in the desk";
-    let command = Command::new(alloc, "tree").about(about).after_help(TREE);
-    let command = with(command, option(alloc, "db", db))?;
-    with(command, optional(alloc, "no", no))
+    let command = with(
+        command(alloc, ViewVerb::Tree),
+        arg_of(alloc, Argument::DeskDrawn),
+    )?;
+    with(command, arg_of(alloc, Argument::SentenceDrawn))
 }
 
 fn check<'a>(alloc: Global) -> Result<Command<'a>, AllocError>
     ensures { IfOk result (IsKnownAs check_app) }
 {
-    let about = "List the faults of the CoNLL-U file on standard input";
-    let command = Command::new(alloc, "check").about(about).after_help(CHECK);
-    let help = "How many faults are listed at most";
-    with(command, defaulted(alloc, "most", "100", help))
+    with(
+        command(alloc, ViewVerb::Check),
+        arg_of(alloc, Argument::Most),
+    )
 }
 
 fn page<'a>(alloc: Global) -> Result<Command<'a>, AllocError>
     ensures { IfOk result (IsKnownAs page_app) }
 {
-    let about = "Serve the desk and a page for browsers on loopback, until the program is ended";
-    let command = reading(alloc, "page", about, PAGE)?;
-    with(
-        command,
-        needed(alloc, "port", "The port; 0 lets the system choose"),
-    )
+    reading_with(alloc, ViewVerb::Page, Argument::PortShown)
 }
 
 /// The command with the subcommands that list.

@@ -1,6 +1,6 @@
 //! The desk's routes, matched by the library matchit.
 
-ghost use Rattle.std.specs.Prelude.{◌≡◌, IfErr, IfOk, true};
+ghost use Rattle.std.specs.Prelude.{◌≡◌, IfErr, IfOk, OnOk, true};
 ghost use Rattle.matchit.specs.declared.error.InsertError.TheVariants.{OutOfMemory};
 ghost use Rattle.tb_http.specs.Routes.{takes_text, with_text, route_rows, route_of};
 
@@ -39,6 +39,7 @@ pub enum Route {
 /// The router with one more route.
 fn with(mut router: Router<Route>, route: &str, value: Route) -> Result<Router<Route>, InsertError>
     ensures rows { IfOk result (λ r. r ≡ with_text route.now value router) }
+    ensures taken { OnOk result (takes_text route.now router ≡ true) }
     ensures memory { takes_text route.now router ≡ true → IfErr result (λ e. e ≡ OutOfMemory) }
 {
     router.insert(route, value)?;

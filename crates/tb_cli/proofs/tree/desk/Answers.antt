@@ -7,7 +7,7 @@ use Rattle.tb_cli.proofs.tree.desk.Goals as goal
 
 pub loop-verb-init : goal.loop-verb-init
 unfolding desk_app
-loop-verb-init c = (ap (λ (a : App). fold with_verb a verbs) c.top-command.ensures.0, c.top-command.ensures.1)
+loop-verb-init c = (ap (λ (a : App). fold with_verb a verbs) c.top-command.ensures.known.0, c.top-command.ensures.known.1)
 
 pub loop-verb-preserved : goal.loop-verb-preserved
 unfolding verbs

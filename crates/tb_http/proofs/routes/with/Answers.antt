@@ -1,4 +1,4 @@
-use Rattle.std.proofs.Common.{◌≡◌, Ok, Err, Result, true, refl}
+use Rattle.std.proofs.Common.{◌≡◌, ⊎_elim, Ok, Err, Result, true, is_none, ap, refl}
 use Rattle.std.proofs.lemmas.Bool.{false≢true}
 use Rattle.std.proofs.lemmas.Result.{err_from_is_err_and}
 use Rattle.matchit.specs.Rows.{RowsOf}
@@ -8,6 +8,7 @@ use Rattle.matchit.specs.declared.error.InsertError.{InsertError}
 use Rattle.matchit.specs.declared.error.InsertError.TheVariants.{Conflict, OutOfMemory, InvalidParamSegment, InvalidParam, InvalidCatchAll}
 use Rattle.tb_http.specs.declared.routes.Route.{Route}
 use Rattle.tb_http.specs.Routes.{with_route, with_text, takes_route, takes_text}
+use Rattle.tb_http.proofs.Asking.{ok_is_no_fault}
 use Rattle.tb_http.proofs.routes.with.Goals as goal
 
 inserted : (s : Result Scan InsertError) (v : Route) (old new : RowsOf (RouteOf Route)) (u : Unit {0})
@@ -18,6 +19,15 @@ inserted (Err s) v old new u h = h.0
 pub returns-clause-rows : goal.returns-clause-rows
 unfolding with_text
 returns-clause-rows c = inserted (parse_route c.args.route.now) c.args.value _ _ _ c.in_ok-insert.ensures
+
+-- only a route that can be parsed and conflicts with no row goes in
+only_taken : (s : Result Scan InsertError) (v : Route) (old new : RowsOf (RouteOf Route)) (u : Unit {0}) → InsertsRead s v old new (Ok u) → takes_route s old ≡ true
+only_taken (Ok s) v old new u h = ap is_none h.0
+only_taken (Err s) v old new u h = absurd (⊎_elim (λ is. ok_is_no_fault u s is) (λ is. ok_is_no_fault u OutOfMemory is) h.1)
+
+pub returns-clause-taken : goal.returns-clause-taken
+unfolding takes_text
+returns-clause-taken c = only_taken (parse_route c.args.route.now) c.args.value _ _ _ c.in_ok-insert.ensures
 
 for_memory : (s : Result Scan InsertError) (v : Route) (old new : RowsOf (RouteOf Route)) (e : InsertError) → takes_route s old ≡ true
     → InsertsRead s v old new (Err e) → e ≡ OutOfMemory
