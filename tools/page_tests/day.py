@@ -131,11 +131,11 @@ def looks_back(ann):
     same("what differs", ["JJ", "JJR"], ann.texts("#history mark"))
     shot(ann, "history")
     ann.run("document.querySelector('.grid tbody').rows[0].cells[1].focus()")
-    ann.click(".tools button", "Word after this one")
+    ann.click(".tools button", "Add a word after this one")
     ann.until("return document.querySelector('.grid tbody').rows.length === 8")
     same("numbers with a word more", ["1", "2", "3", "4-5", "4", "5", "6", "7"], [cell(ann, row, 0) for row in range(8)])
     same("what refers to words that moved", ("6", "6:aux"), (cell(ann, 4, 6), cell(ann, 4, 8)))
-    ann.click(".tools button", "Take this row out")
+    ann.click(".tools button", "Remove this row")
     ann.until("return document.querySelector('#save').disabled")
 
 
@@ -213,6 +213,10 @@ def searches(cem, desk, folder):
     cem.see("#fault", "refused 19 Query 2 6")
     cem.see("#fault", "byte 6: the query is outside the grammar")
     same("the cursor is at the fault", [6, True], cem.run("const q = document.getElementById('query'); return [q.selectionStart, document.activeElement === q]"))
+    cem.type("#query", '[upos="INTJ"]')
+    cem.keys("enter")
+    cem.see("#found", "Only batches in the state released are searched.")
+    same("a citation of no hits", f'0 hits ([upos="INTJ"], longest, after move {last})', cem.text("#cite"))
     query = '[upos="NOUN" | upos="PROPN"]'
     cem.type("#query", query)
     cem.run("document.getElementById('attribute').value = 'upos'")
@@ -245,6 +249,7 @@ def a_day(driver):
     desk, ann, ben = Desk(), driver.browser(), driver.browser()
     with tempfile.TemporaryDirectory() as folder:
         at_board(ann, desk)
+        ann.see("#main p", "no batch yet")
         totals_agree(ann, desk)
         imports(ann, desk, folder)
         repairs(driver, desk, folder)

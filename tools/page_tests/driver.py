@@ -44,6 +44,8 @@ class Browser:
 
     def go(self, url):
         self.call("POST", "/url", {"url": url})
+        # (Firefox may answer while the page before is still there, where the address has a fragment)
+        self.until("return location.href.startsWith(arguments[0]) && document.readyState === 'complete'", url.partition("#")[0])
 
     def run(self, script, *args):
         return self.call("POST", "/execute/sync", {"script": script, "args": list(args)})

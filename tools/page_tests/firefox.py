@@ -134,7 +134,8 @@ class Firefox(driver.Browser):
         self.run_in_browser("Services.prefs.setStringPref('browser.download.dir', arguments[0])", str(folder))
 
     def complaints(self):
-        return self.run_in_browser(COMPLAINTS)
+        # (a script of the driver that Firefox ended with its page has no place; one of the page has)
+        return [it for it in self.run_in_browser(COMPLAINTS) if not it.endswith(" Script terminated by timeout at:\n")]
 
     def close(self):
         with contextlib.suppress(OSError, ValueError, driver.Faulty):

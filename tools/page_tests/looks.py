@@ -86,6 +86,10 @@ def narrow_and_dark(driver):
         shows(browser, view)
         browser.until("return innerWidth === 400")
         holds(f"{view} is no wider than its window", browser.run("return document.documentElement.scrollWidth <= innerWidth"))
+        if view.endswith("sentence/1"):
+            browser.run("document.querySelector('.grid tbody').rows[0].cells[9].focus()")
+            holds("the buttons stay where the table scrolls", browser.run(
+                "return document.querySelector('.sideways').scrollLeft > 0 && document.querySelector('.tab').getBoundingClientRect().left > 0"))
         shot(browser, f"narrow-{view.split('/#/')[1].replace('/', '-') or 'board'}")
     is_quiet(browser)
     desk.close()
@@ -142,6 +146,8 @@ def long_sentence(words):
     return "\n".join([f"# sent_id = long{words}", "# text = " + " ".join(row.split("\t")[1] for row in rows), *rows, "", ""]).encode()
 
 
+PATHS = "return [...document.querySelectorAll(arguments[0])].map(path => path.getAttribute('d'))"
+
 # Whether the first of some elements is laid out, and the last of them is not: it is only there.
 NEAR_ALONE = """
 const found = [...document.querySelectorAll(arguments[0])], isLaidOut = node => node.checkVisibility({ contentVisibilityAuto: true });
@@ -156,6 +162,11 @@ def far_words(browser, desk):
     browser.go(f"{desk.url}/#/sentence/1/900-901")
     browser.until("const box = document.querySelector('.word.hit .form')?.getBoundingClientRect(); return box && box.left > 0 && box.right < innerWidth")
     same("marked words", ["word27", "word28"], browser.texts(".word.hit .form"))
+    heads = [row.split("\t")[6] for row in long_sentence(1000).decode().splitlines()[2:-1]]
+    browser.run("document.querySelector('.word.hit').dispatchEvent(new PointerEvent('pointerover', { bubbles: true }))")
+    same("lifted arcs, to the word and from it", 1 + heads.count("900"), "".join(browser.run(PATHS, ".lifted .arc")).count("M"))
+    browser.run("document.querySelector('.tree-picture').dispatchEvent(new PointerEvent('pointerleave'))")
+    same("lifted arcs, without a word", [], browser.run(PATHS, ".lifted path"))
     browser.click(".word.hit .form", "word28")
     same("the row of the word that was clicked", ["901", "word28"], browser.run("return [...document.activeElement.parentNode.cells].slice(0, 2).map(cell => cell.textContent)"))
     browser.keys("enter")
@@ -166,6 +177,9 @@ def far_words(browser, desk):
         "const next = document.activeElement; document.querySelector('[value=text]').click(); const text = document.querySelector('.conllu').value;"
         "return [next.parentNode.cells[0].textContent, text.split('\\n')[902].split('\\t', 2).join('\\t')]"))
     browser.click("#undo")
+    browser.click(".tab", "Table")
+    browser.click("#revisions")
+    browser.until("const box = document.querySelector('#history h2')?.getBoundingClientRect(); return box && box.top > 0 && box.bottom < innerHeight")
 
 
 def sizes_and_stops(driver):
@@ -194,8 +208,8 @@ def sizes_and_stops(driver):
         is_soon(what, seconds, limit)
     browser.type("#query", "[]{1,32} [upos=\"PUNCT\"]")
     browser.run("document.getElementById('strategy').value = 'every'")
-    browser.click("#search")
-    browser.run("document.getElementById('stop').click()")
+    # (both at once: on a busy machine the search may end between two calls of the driver)
+    browser.run("for (const name of ['search', 'stop']) document.getElementById(name).click()")
     browser.see("#hits", "Stopped after")
     same("a number to cite", None, browser.text("#cite"))
     is_quiet(browser)
@@ -245,7 +259,7 @@ def handouts(driver):
         browser.see(".word .form", forms[0])
         same("forms of the tree", forms, browser.texts(".word .form"))
         same("its title", "Dependency trees", browser.run("return document.title"))
-        same("arcs, one for each word but the root", len(forms) - 1, len(browser.all(".arcs path[data-from]")))
+        same("arcs, one for each word but the root", len(forms) - 1, "".join(browser.run(PATHS, ".arcs .arc")).count("M"))
         same("the button for enhanced relations is there where there are any", number == 2, browser.run("return document.getElementById('enhanced').checkVisibility()"))
         same("texts with little contrast", [], browser.run(PALE))
         shot(browser, f"handout-{number}")

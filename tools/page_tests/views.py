@@ -57,6 +57,8 @@ def scripts_of_the_world(driver):
                         "return [...document.querySelectorAll('.line')].map(line => [line.dir, left(line, '.left'), left(line, '.right mark')])")
     same("directions", {"rtl", "ltr"}, {edge[0] for edge in edges})
     holds("what is left of a match is before it", all((left < mark) == (way == "ltr") for way, left, mark in edges))
+    same("ids are at the edge of their lines", {"ltrleft", "rtlright"}, set(browser.run(
+        "return [...document.querySelectorAll('.line')].map(line => line.dir + getComputedStyle(line.querySelector('.id')).textAlign)")))
     same("matches are aligned", 1, len({round(mark) for way, left, mark in edges if way == "ltr"}))
     shot(browser, "keywords")
     is_quiet(browser)
