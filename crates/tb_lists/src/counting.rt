@@ -1,6 +1,6 @@
 //! What each batch holds, counted in one walk over the rows of all sentences.
 
-ghost use Rattle.std.specs.Prelude.{◌≡◌, ◌+◌, ◌<◌, ◌^◌, IfErr, IfOk, length, replicate, slice_index_or, ◌-◌, slice_set};
+ghost use Rattle.std.specs.Prelude.{◌≡◌, ◌+◌, ◌<◌, ◌^◌, IfErr, IfOk, IsOk, length, replicate, slice_index_or, ◌-◌, slice_set};
 ghost use Rattle.tb_lists.specs.Prelude.{AllByRecursion, IsAscending};
 ghost use Rattle.tb_lists.specs.Counted.{IsOfSoMany, change_of, count_all, counted, first_seen, no_count};
 
@@ -131,8 +131,10 @@ pub(crate) fn count_rows(
     ensures counts { IfOk result (λ v. IsAscending (λ a b. a < b) pulled.now
         → v.items ≡ count_all pulled.now 1 rows.now (replicate batches no_count)) }
     ensures fault { IfErr result (λ e. e ≡ Fault.Memory) }
+    ensures sure { batches ≡ 0 → IsOk result }
 {
-    let mut counts = vec![in alloc; NONE; batches]?;
+    let mut counts = Vec::new(alloc);
+    counts.resize(batches, NONE)?;
     put_all(&mut counts, rows, pulled);
     Ok(counts)
 }

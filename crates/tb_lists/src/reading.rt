@@ -1,7 +1,7 @@
 //! Lists, read from the tables of a desk. Contracts state them as facts of the state that the tables represent. No
 //! read changes that state, also after an error.
 
-ghost use Rattle.std.specs.Prelude.{◌≡◌, ◌≢◌, ◌-◌, ◌<◌, ◌≤◌, ◌^◌, Err, IfErr, IfOk, List, Some, length, map};
+ghost use Rattle.std.specs.Prelude.{◌≡◌, ◌≢◌, ◌-◌, ◌<◌, ◌≤◌, ◌^◌, Err, IfErr, IfOk, IsOk, List, Some, length, map};
 ghost use Rattle.std.specs.Prelude.{slice_get};
 ghost use Rattle.tb_lists.specs.Prelude.{AnyRefusal, batch_of, batch_record, IsNoDevice, IsRead, IsReadWhere};
 ghost use Rattle.tb_lists.specs.Prelude.{pulled_from, rev, Sentence, sentence_of, sentence_record, Tells};
@@ -62,6 +62,7 @@ fn counts_of(
     ensures fails { result ≡ Err Fault.NotADesk → length rows.now < 2 ^ 32 → ⊥ }
     ensures cause { IfErr result IsNoDevice }
     ensures many { 2 ^ 32 ≤ length rows.now → result ≡ Err Fault.NotADesk }
+    ensures sure { batches ≡ 0 → length rows.now < 2 ^ 32 → IsOk result }
 {
     if rows.len() > u32::MAX as usize {
         return Err(Fault::NotADesk);

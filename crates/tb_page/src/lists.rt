@@ -62,7 +62,8 @@ fn unescaped(alloc: Global, text: &[u8]) -> Result<Vec<u8>, Reply>
 fn with_id<S: Alter>(alloc: Global, desk: &mut Desk<S>, id: &[u8]) -> Result<Vec<u8>, Reply>
     ensures read { IsReadResult S.Store desk.old desk.new result (λ s v. IsWithId s id.now v.items)
         (λ cause s. IsReportedAs cause (LacksId s id.now)) }
-    ensures unreadable { (IsUtf8 id.now → ⊥) → result ≡ ErrOf (Reply.Refused Refusal.NoSuchSentence) }
+    ensures unreadable { (IsUtf8 id.now → ⊥) → (result ≡ ErrOf (Reply.Refused Refusal.NoSuchSentence))
+        × (desk.new ≡ desk.old) }
 {
     match from_utf8(id) {
         Ok(id) => view_found(alloc, desk, id),
@@ -81,7 +82,7 @@ fn with_escaped_id<S: Alter>(alloc: Global, desk: &mut Desk<S>, id: &[u8]) -> Re
     }
 }
 
-/// The text of a list.
+/// The text of a list. The counts are known without a read of the desk.
 ///
 /// # Errors
 ///
@@ -91,8 +92,10 @@ pub(crate) fn list_text<S: Alter>(
     desk: &mut Desk<S>,
     list: PageList<'_>,
 ) -> Result<Vec<u8>, Reply>
-    ensures { IsReadResult S.Store desk.old desk.new result (λ s v. IsList s (list_by list.entry) v.items)
+    ensures read { IsReadResult S.Store desk.old desk.new result (λ s v. IsList s (list_by list.entry) v.items)
         (λ cause s. IsReportedAs cause (RefusesList s (list_by list.entry))) }
+    ensures counts { list.entry ≡ PageList.Counts → (desk.new ≡ desk.old)
+        × IfErr result (λ r. r ≡ Reply.Memory) }
 {
     match list {
         PageList::Counts => copied(alloc, counts_csv(desk.row_counts()).as_str()),

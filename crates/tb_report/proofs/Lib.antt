@@ -1,4 +1,5 @@
 pub mod Rows
+pub mod NoRows
 pub mod Numbers
 pub mod Placed
 pub mod Shorts

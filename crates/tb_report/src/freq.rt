@@ -58,7 +58,8 @@ impl Freq {
 
     /// The rows, the greatest count first.
     pub(crate) fn ranking(&self) -> Result<Vec<Rank<'_>>, AllocError>
-        ensures { IfOk result (λ v. IsRankingOf self.now (map ranked_row v.items)) }
+        ensures ranking { IfOk result (λ v. IsRankingOf self.now (map ranked_row v.items)) }
+        ensures sure { self.now ≡ [] → IsOk result }
     {
         let mut ranks = ranks_of(self.alloc, &self.short, &self.long)?;
         ranks.sort_unstable();
@@ -66,6 +67,7 @@ impl Freq {
     }
 
     /// The keys with their counts: the greatest count first, and keys with the same count in the order of their bytes.
+    /// Takes no memory where there are none.
     ///
     /// # Errors
     ///
@@ -73,6 +75,7 @@ impl Freq {
     pub fn rows(&self) -> Result<Vec<(String, u64)>, AllocError>
         ensures rows { IfOk result (λ v. IsRankingOf self.now (rows_of v.items)) }
         ensures sum { IfOk result (λ v. total_of (rows_of v.items) ≡ total_of self.now) }
+        ensures sure { self.now ≡ [] → IsOk result }
     {
         let ranks = self.ranking()?;
         owned_rows(self.alloc, &ranks)
@@ -106,7 +109,9 @@ fn ranks_of<'a>(
     short: &'a ShortCounts,
     long: &'a LongCounts,
 ) -> Result<Vec<Rank<'a>>, AllocError>
-    ensures { IfOk result (λ v. map ranked_row v.items ≡ short_rows short.now.entries ++ rows_of long.now.entries) }
+    ensures ranks { IfOk result (λ v.
+        map ranked_row v.items ≡ short_rows short.now.entries ++ rows_of long.now.entries) }
+    ensures sure { short.now.entries ≡ [] → long.now.entries ≡ [] → IsOk result }
 {
     let mut ranks: Vec<Rank<'a>> = Vec::with_capacity(alloc, short.len() + long.len())?;
     push_short(&mut ranks, short)?;
@@ -115,8 +120,9 @@ fn ranks_of<'a>(
 }
 
 fn push_short<'a>(ranks: &mut Vec<Rank<'a>>, short: &'a ShortCounts) -> Result<(), AllocError>
-    ensures { OnOk result (map ranked_row ranks.new.items
+    ensures ranks { OnOk result (map ranked_row ranks.new.items
         ≡ map ranked_row ranks.old.items ++ short_rows short.now.entries) }
+    ensures sure { short.now.entries ≡ [] → IsOk result }
 {
     for (key, count) in short.values() {
         ranks.push((Reverse(*count), key.as_str()))?;
@@ -125,8 +131,9 @@ fn push_short<'a>(ranks: &mut Vec<Rank<'a>>, short: &'a ShortCounts) -> Result<(
 }
 
 fn push_long<'a>(ranks: &mut Vec<Rank<'a>>, long: &'a LongCounts) -> Result<(), AllocError>
-    ensures { OnOk result (map ranked_row ranks.new.items
+    ensures ranks { OnOk result (map ranked_row ranks.new.items
         ≡ map ranked_row ranks.old.items ++ rows_of long.now.entries) }
+    ensures sure { long.now.entries ≡ [] → IsOk result }
 {
     for (key, count) in long {
         ranks.push((Reverse(*count), key.as_str()))?;
@@ -136,7 +143,8 @@ fn push_long<'a>(ranks: &mut Vec<Rank<'a>>, long: &'a LongCounts) -> Result<(), 
 
 /// The ranks, with keys that they own.
 fn owned_rows(alloc: Global, ranks: &[Rank<'_>]) -> Result<Vec<(String, u64)>, AllocError>
-    ensures { IfOk result (λ v. rows_of v.items ≡ map ranked_row ranks.now) }
+    ensures rows { IfOk result (λ v. rows_of v.items ≡ map ranked_row ranks.now) }
+    ensures sure { ranks.now ≡ [] → IsOk result }
 {
     let mut rows = Vec::with_capacity(alloc, ranks.len())?;
     for rank in ranks {

@@ -1,6 +1,6 @@
 //! A page of trees: one file that a browser shows without a desk, as for a handout.
 
-ghost use Rattle.std.specs.Prelude.{◌≡◌, ◌++◌, IfOk, OnOk};
+ghost use Rattle.std.specs.Prelude.{◌≡◌, ◌++◌, [], IfOk, IsOk, OnOk};
 ghost use Rattle.tb_report.specs.Trees.{escaped, escaped_byte, trees_head, trees_page, trees_script};
 
 use crate::assets::{
@@ -31,7 +31,8 @@ fn push_byte(page: &mut Vec<u8>, byte: u8) -> Result<(), AllocError>
 
 /// Appends a text as text of HTML.
 fn push_escaped(page: &mut Vec<u8>, text: &[u8]) -> Result<(), AllocError>
-    ensures { OnOk result (page.new.items ≡ page.old.items ++ escaped text.now) }
+    ensures escaped { OnOk result (page.new.items ≡ page.old.items ++ escaped text.now) }
+    ensures sure { text.now ≡ [] → IsOk result }
 {
     for byte in text {
         push_byte(page, *byte)?;

@@ -7,7 +7,7 @@ pub const EDIT_JS: &str = r##"// The editor of a sentence: as a table, and as te
 //
 // There is one text. The table shows its rows, and each change of a cell is a change of the text.
 
-import { COLUMNS, button, el, heads } from './desk.js';
+import { COLUMNS, button, el, heads, plural } from './desk.js';
 import { diff, withField, withWord, withoutRow } from './conllu.js';
 import { rowsOf } from './rows.js';
 import { measuring } from './tree.js';
@@ -91,8 +91,8 @@ export class Editor {
   #area = el('textarea', { class: 'conllu', wrap: 'off', dir: 'ltr', spellcheck: 'false', rows: 12, 'aria-label': 'The sentence as CoNLL-U' });
   #note = el('p', { class: 'quiet' });
   #tools = el('span', { class: 'tools' },
-    button({ onclick: () => this.#addWord() }, 'Word after this one'),
-    button({ onclick: () => this.#removeRow() }, 'Take this row out'));
+    button({ onclick: () => this.#addWord() }, 'Add a word after this one'),
+    button({ onclick: () => this.#removeRow() }, 'Remove this row'));
 
   constructor(text, onChange) {
     this.#text = text;
@@ -100,7 +100,8 @@ export class Editor {
     const tab = (name, label) => el('label', { class: 'tab' },
       el('input', { type: 'radio', name: 'as', value: name, checked: name === 'table', onchange: () => this.#showAs(name) }), label);
     this.node = el('section', { class: 'editor', 'aria-label': 'Editor' },
-      el('div', { class: 'tools' }, tab('table', 'Table'), tab('text', 'CoNLL-U'), this.#tools), this.#note, this.#grid, this.#area);
+      el('div', { class: 'tools' }, tab('table', 'Table'), tab('text', 'CoNLL-U'), this.#tools), this.#note,
+      el('div', { class: 'sideways' }, this.#grid), this.#area);
     this.#area.addEventListener('input', () => this.#change(this.#area.value));
     this.#grid.addEventListener('focusin', event => { if (event.target.matches('td')) this.#enter(event.target); });
     this.#grid.addEventListener('dblclick', event => { if (event.target.matches('td')) this.#edit(event.target); });
@@ -158,7 +159,7 @@ export class Editor {
     this.#fit(rows);
     this.#at[0] = between(0, this.#at[0], Math.max(0, rows.length - 1));
     this.#cell?.setAttribute('tabindex', 0);
-    this.#note.textContent = `${rows.length} rows; ${comments} comment lines are in the text alone. sent_id and text may not change.`;
+    this.#note.textContent = `${plural(rows.length, 'row')}, and ${plural(comments, 'comment')} under CoNLL-U. sent_id and text have to stay as they are.`;
   }
 
   /** Gives the columns their widths. The blocks are laid out one by one, and have to agree. */

@@ -103,6 +103,9 @@ class Lines {
   }
 }
 
+/** Why there may be no hits. */
+const onlyReleased = hits => (hits ? '' : el('p', { class: 'quiet' }, 'Only batches in the state released are searched.'));
+
 function countRow({ key, count }, most, sum) {
   const bar = el('div', { class: 'bar' });
   bar.style.width = `${100 * Number(count) / most}%`;          // (a style attribute would be refused by the policy)
@@ -203,6 +206,7 @@ export class Finder {
 
   #remarks({ hits }, text) {
     return [
+      onlyReleased(hits),
       ...(hits > SHOWN ? [el('p', { class: 'quiet' }, `The first ${plain(SHOWN)} lines are shown; the file has all.`)] : []),
       ...(hits ? [saving(text.slice(0, text.lastIndexOf('hits ')), 'keywords.tsv', 'Lines as TSV')] : []),
     ];
@@ -220,7 +224,7 @@ export class Finder {
     const body = el('tbody');
     this.#found.replaceChildren(
       el('p', { id: 'hits', class: 'hits' }, `hits ${sum}`),
-      this.#citation(sum, asked),
+      this.#citation(sum, asked), onlyReleased(sum),
       el('p', {}, `${plural(rows.length, 'key')}, the sum of their counts is ${plain(sum)}. `, saving(answer.text, `count-${by}.csv`, 'CSV'),
         el('span', { class: 'quiet' }, ' In a spreadsheet import it as text: a key may begin with "=".')),
       wide(el('table', { class: 'counts' }, heads([by, 'count', 'share', '']), body)));
@@ -247,7 +251,8 @@ export class Finder {
   #citation(hits, { text, strategy, move }) {
     if (move === null) return el('p', { class: 'fault' }, 'The desk changed while this was counted: ask again before you cite it.');
     const line = `${plain(hits)} ${hits === 1 ? 'hit' : 'hits'} (${text}, ${strategy}, after move ${move})`;
-    return el('p', { class: 'cite' }, el('span', { id: 'cite' }, own(line)), ' ', button({ onclick: () => this.#copy(line) }, 'Copy'));
+    return el('p', { class: 'cite' }, el('span', { class: 'quiet' }, 'To cite: '), el('span', { id: 'cite' }, own(line)), ' ',
+      button({ onclick: () => this.#copy(line) }, 'Copy'));
   }
 
   async #copy(line) {

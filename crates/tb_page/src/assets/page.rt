@@ -209,7 +209,8 @@ async function board() {
   const failed = [list, totals].find(answer => !answer.ok);
   if (failed) return put('Board', heading('Board'), failure(failed));
   const columns = STATES.map(state => stateColumn(state, list.rows, totals.rows.find(row => row.state === state)));
-  put('Board', heading('Board'), el('div', { class: 'board' }, columns), importer);
+  const hint = list.rows.length ? '' : el('p', { class: 'quiet' }, 'The desk has no batch yet: import a CoNLL-U file below.');
+  put('Board', heading('Board'), hint, el('div', { class: 'board' }, columns), importer);
 }
 
 // ---- a batch
@@ -298,7 +299,7 @@ class Sentence {
   #faults = el('ul', { id: 'faults', class: 'hints', 'aria-live': 'polite', 'aria-label': 'What the desk would refuse' });
   #stale = el('section', { id: 'stale', 'aria-label': 'A newer revision' });
   #history = el('section', { id: 'history', 'aria-label': 'Revisions' });
-  #undo = button({ id: 'undo', onclick: () => this.#giveUp() }, 'Give my changes up');
+  #undo = button({ id: 'undo', onclick: () => this.#giveUp() }, 'Discard my changes');
   #save = button({ id: 'save', class: 'main', onclick: () => this.save() });
   #isEnhanced = false;
   #timer = 0;
@@ -499,6 +500,7 @@ class Sentence {
       ' by ', own(wrote[i]?.who ?? '?'), `, move ${wrote[i]?.no ?? '?'}`));
     this.#history.replaceChildren(el('h2', {}, 'Revisions'), el('ol', { class: 'revisions' }, items), box);
     await this.#showRevision(this.revision, box);
+    this.#history.scrollIntoView({ block: 'nearest' });     // (it is below the table, which may have a thousand rows)
   }
 
   /** Shows a revision beside the one before it. */

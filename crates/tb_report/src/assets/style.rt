@@ -44,7 +44,8 @@ code { overflow-wrap: anywhere; }
 h1:focus-visible, main:focus-visible { outline: none; }
 
 button, input, select, textarea { font: inherit; color: inherit; background: var(--sheet); border: 1px solid var(--rule); border-radius: 5px; padding: .22rem .55rem; }
-button { cursor: pointer; }
+button, ::file-selector-button { cursor: pointer; }
+::file-selector-button { font: inherit; color: inherit; background: var(--paper); border: 1px solid var(--rule); border-radius: 4px; padding: .05rem .5rem; margin-inline-end: .6rem; }
 button:hover:not(:disabled) { border-color: var(--accent); }
 button:disabled { opacity: .45; cursor: default; }
 button.main { background: var(--accent); color: var(--accent-ink); border-color: var(--accent); }
@@ -55,6 +56,7 @@ label { display: inline-flex; flex-wrap: wrap; align-items: center; gap: .4rem; 
 input { max-width: 100%; }
 .tools { display: flex; flex-wrap: wrap; align-items: center; gap: .4rem .8rem; margin: .5rem 0; }
 .rule { border-inline-start: 1px solid var(--rule); height: 1.6rem; }
+@media (max-width: 620px) { .rule { display: none; } }
 
 #told:not(:empty) { position: sticky; top: 0; z-index: 2; padding: .45rem 1.2rem; border-bottom: 1px solid var(--rule); }
 #told.done { background: var(--done-paper); }
@@ -81,6 +83,7 @@ table { border-collapse: collapse; }
 @media (max-width: 760px) { .wide { overflow-x: auto; } }
 .sentences, .moves, .counts { background: var(--sheet); font-size: .92rem; }
 .sentences { width: 100%; }
+.sentences th:nth-child(3) { width: 65%; }
 th { text-align: start; font-weight: 600; color: var(--quiet); font-size: .85rem; }
 .sentences th, .moves th, .counts th { position: sticky; top: 0; background: var(--sheet); border-bottom: 1px solid var(--rule); }
 .sentences td, .moves td, .counts td, .sentences th, .moves th, .counts th { padding: .16rem .6rem; border-bottom: 1px solid var(--rule); vertical-align: top; }
@@ -103,7 +106,8 @@ tr.pulled td:last-child { text-decoration: none; color: var(--warn); }
 .line { display: grid; grid-template-columns: 8rem calc(50% - 8rem) 50%; height: 26px; line-height: 26px; white-space: pre; }
 .line:hover, .line:focus-within { background: var(--done-paper); cursor: pointer; }
 .line :is(.id, .left span, mark, .right span) { unicode-bidi: plaintext; }
-.line .id { border: 0; background: none; color: var(--link); padding: 0 .6rem; text-align: match-parent; overflow: hidden; text-overflow: ellipsis; font-size: .85rem; }
+.line .id { border: 0; background: none; color: var(--link); padding: 0 .6rem; text-align: left; overflow: hidden; text-overflow: ellipsis; font-size: .85rem; }
+.line[dir=rtl] .id { text-align: right; }
 .line .left { display: flex; justify-content: flex-end; overflow: hidden; padding-inline-end: .5em; }
 .line .left span { flex: none; }
 .line .right { overflow: hidden; text-overflow: ellipsis; }
@@ -112,7 +116,8 @@ mark { background: var(--mark); color: inherit; border-radius: 2px; padding: 0 .
 .text { font-size: 1.15rem; margin: .2rem 0 .6rem; }
 .tree { overflow-x: auto; background: var(--sheet); border: 1px solid var(--rule); border-radius: 6px; }
 .tree-picture { position: relative; margin-inline: auto; }
-.tree-picture svg { position: absolute; top: 0; height: 100%; }
+.tree-picture div { position: absolute; top: 0; height: 100%; }
+.tree-picture svg { display: block; width: 100%; height: 100%; }
 /* Marked words are laid out at once, since the window goes to them. */
 .tree-picture .words:not(:has(.hit)) { content-visibility: auto; }
 .tree-picture text { text-anchor: middle; fill: var(--ink); font: 11px var(--sans); unicode-bidi: plaintext; }
@@ -128,7 +133,8 @@ mark { background: var(--mark); color: inherit; border-radius: 2px; padding: 0 .
 .tree-picture .basic { stroke: var(--rule); stroke-dasharray: none; }
 .tree-picture .tips { fill: var(--quiet); stroke: none; }
 .tree-picture .tips.deep { fill: var(--link); }
-.tree-picture .lifted { stroke: var(--accent); stroke-width: 2.4; }
+.tree-picture .lifted path { stroke: var(--accent); stroke-width: 2.4; }
+.tree-picture .lifted .tips { stroke: none; fill: var(--accent); }
 .word rect { fill: transparent; }
 .word { cursor: pointer; user-select: none; }
 .word:hover rect { fill: var(--done-paper); }
@@ -139,7 +145,7 @@ mark { background: var(--mark); color: inherit; border-radius: 2px; padding: 0 .
 .unsaved { color: var(--warn); margin: .2rem 0; }
 p.quiet { margin: .2rem 0; }
 .hints { color: var(--warn); margin: .3rem 0; padding-inline-start: 1.2rem; font-size: .92rem; }
-.editor { overflow-x: auto; }
+.sideways { overflow-x: auto; }
 .tab { border: 1px solid var(--rule); border-radius: 5px; padding: .1rem .5rem; background: var(--sheet); }
 .grid { display: block; min-width: 60rem; background: var(--sheet); border: 1px solid var(--rule); border-width: 1px 0 0 1px; }
 .grid :is(thead, tbody) { display: block; }
@@ -161,6 +167,8 @@ p.quiet { margin: .2rem 0; }
 .diff .gone td:first-child, .diff .turned td:first-child { background: var(--gone); }
 .diff .new td:last-child, .diff .turned td:last-child { background: var(--new); }
 .revisions li { margin: .15rem 0; }
+/* (the message stays at the top of the window) */
+#stale, #history { scroll-margin-block: 3.5rem; }
 
 @media print { .block, .tree-picture .words:not(:has(.hit)), .grid tbody { content-visibility: visible; } }
 "##;

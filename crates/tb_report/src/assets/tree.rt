@@ -9,7 +9,7 @@ pub const TREE_JS: &str = r##"// A dependency tree as a picture (SVG).
 // another. Each column is as wide as its widest text. Enhanced relations (DEPS) are drawn below the words.
 //
 // The picture is a stack of sheets: one has all arcs, and each of the others some words. A browser lays out a sheet of
-// words when it comes near the window (page.css), so a thousand words are shown as soon as fifty.
+// words when it comes near the window (page.css), so a thousand words are shown as soon as fifty. Many arcs are one path.
 
 const NS = 'http://www.w3.org/2000/svg';
 const FONT = 'system-ui, "Noto Sans", sans-serif';
@@ -19,8 +19,11 @@ const GAP = 14, EDGE = 16, TALLEST = 420, LEVEL = 20, LEVEL_BELOW = 14;
 const LINE = 13, RANGE_LINE = 30;
 // Where more arcs than this go from one head to one side, they share a height: a star would be one grey block.
 const FAN = 7;
-// Words of one sheet.
+// Words of one sheet, and arcs of one path.
 const SHEET = 50;
+
+/** A list in parts of that size. */
+const inSheets = all => Array.from({ length: Math.ceil(all.length / SHEET) }, (_, i) => all.slice(i * SHEET, (i + 1) * SHEET));
 
 // ---- texts
 
@@ -208,14 +211,19 @@ function wordAt({ base, form }) {
 
 /** Draws a word as a copy of `model`. */
 function drawWord(place, model, row, i, isHit) {
-  const { x, width } = place.columns[i], group = model.cloneNode(true), [box, ...texts] = group.children;
-  setAll(group, { class: `word ${row.kind}${isHit ? ' hit' : ''}`, 'aria-label': nameOf(place, row), 'data-at': i });
-  setAll(box, { x: x - width / 2 + 2, width: width - 4 });
-  [1, 3, 0, 7].forEach((field, k) => {
-    texts[k].setAttribute('x', x);
-    texts[k].textContent = row.fields[field];
-  });
-  if (row.kind === 'empty') texts[3].remove();
+  const { x, width } = place.columns[i], { kind, fields } = row, group = model.cloneNode(true);
+  group.setAttribute('class', isHit ? `word ${kind} hit` : `word ${kind}`);
+  group.setAttribute('aria-label', nameOf(place, row));
+  group.setAttribute('data-at', i);
+  let part = group.firstChild;
+  part.setAttribute('x', x - width / 2 + 2);
+  part.setAttribute('width', width - 4);
+  for (const field of [1, 3, 0, 7]) {
+    part = part.nextSibling;
+    part.setAttribute('x', x);
+    part.textContent = fields[field];
+  }
+  if (kind === 'empty') part.remove();
   return group;
 }
 
@@ -231,29 +239,33 @@ function drawRange({ columns, form }, { from, to, fields }) {
   ];
 }
 
-function drawArcs({ nodes, columns, arcs, base, level }) {
+/** Lines and arrows above the words: to each root, and from each head to its dependent. Each has the columns that it joins. */
+function linesAbove({ nodes, columns, arcs, base, level }) {
   const roots = nodes.flatMap((row, to) => (row.kind === 'word' && row.fields[6] === '0' ? [to] : []));
-  const tips = [...roots, ...arcs.map(arc => arc.to)].map(to => tip(columns[to].x, base, 1)).join('');
   return [
-    ...roots.map(to => svg('path', { d: `M${columns[to].x} 8V${base}`, class: 'root', 'data-to': to })),
-    ...arcs.map(arc => svg('path', {
-      d: bend(arc.start, columns[arc.to].x, base, base - arc.level * level, base), 'data-from': arc.from, 'data-to': arc.to,
-    })),
-    svg('path', { d: tips, class: 'tips' }),
+    ...roots.map(to => ({ kind: 'root', to, path: `M${columns[to].x} 8V${base}` })),
+    ...arcs.map(arc => ({ ...arc, kind: 'arc', path: bend(arc.start, columns[arc.to].x, base, base - arc.level * level, base) })),
+    ...[...roots.map(to => ({ to })), ...arcs].map(arc => ({ ...arc, kind: 'tips', path: tip(columns[arc.to].x, base, 1) })),
   ];
 }
 
 /** The arcs of DEPS. Several that end at one word end side by side. */
-function drawArcsBelow({ columns, links, below, foot, floor, levelBelow }) {
+function linesBelow({ columns, links, below, foot, floor, levelBelow }) {
   const under = at => foot + links[at].length * LINE + 3;
   const endOf = arc => columns[arc.to].x + (arc.line - (links[arc.to].length - 1) / 2) * 6;
   return [
-    ...below.map(arc => svg('path', {
-      d: bend(arc.start, endOf(arc), under(arc.from), floor + arc.level * levelBelow, under(arc.to)),
-      class: arc.isBasic ? 'deep basic' : 'deep', 'data-from': arc.from, 'data-to': arc.to,
+    ...below.map(arc => ({
+      ...arc, kind: arc.isBasic ? 'deep basic' : 'deep',
+      path: bend(arc.start, endOf(arc), under(arc.from), floor + arc.level * levelBelow, under(arc.to)),
     })),
-    svg('path', { d: below.map(arc => tip(endOf(arc), under(arc.to), -1)).join(''), class: 'tips deep' }),
+    ...below.map(arc => ({ ...arc, kind: 'tips deep', path: tip(endOf(arc), under(arc.to), -1) })),
   ];
+}
+
+/** Draws lines, many of a kind as one path: a browser takes longer for a thousand paths. */
+function drawLines(lines) {
+  return [...Map.groupBy(lines, line => line.kind)].flatMap(([kind, all]) => inSheets(all)
+    .map(some => svg('path', { class: kind, d: some.map(line => line.path).join('') })));
 }
 
 function drawLinks({ columns, links, foot }, i) {
@@ -262,39 +274,41 @@ function drawLinks({ columns, links, foot }, i) {
 
 // ---- sheets
 
-/** A sheet of the picture. Its place is given in parts of the whole, so that all shrink together where it is printed. */
-function sheet({ width, height }, left, right, attributes) {
-  const node = svg('svg', { viewBox: `${left} 0 ${right - left} ${height}`, preserveAspectRatio: 'none', ...attributes });
+/**
+ * A sheet of the picture. Its place is given in parts of the whole, so that all shrink together where it is printed. It is
+ * an element of HTML, since Firefox lays out each `svg` wherever it is.
+ */
+function sheet({ width, height }, left, right, attributes, parts) {
+  const node = document.createElement('div');
+  const inside = svg('svg', { viewBox: `${left} 0 ${right - left} ${height}`, preserveAspectRatio: 'none', role: 'none' });
+  setAll(node, attributes);
   node.style.left = `${100 * left / width}%`;
   node.style.width = `${100 * (right - left) / width}%`;
+  inside.append(...parts);
+  node.append(inside);
   return node;
 }
 
-/** The sheet of all arcs, with the ranges, which may belong to words of two sheets. */
-function arcSheet(place) {
-  const node = sheet(place, 0, place.width, { 'aria-hidden': 'true' }), arcs = svg('g', { class: 'arcs' });
-  arcs.append(...drawArcs(place), ...drawArcsBelow(place));
-  node.append(arcs, ...place.ranges.flatMap(range => drawRange(place, range)));
-  return node;
+/** The sheet of all arcs, with the ranges, which may belong to words of two sheets. `lifted` is for arcs that are lifted. */
+function arcSheet(place, lines, lifted) {
+  const arcs = svg('g', { class: 'arcs' });
+  arcs.append(...drawLines(lines));
+  return sheet(place, 0, place.width, { 'aria-hidden': 'true' }, [arcs, lifted, ...place.ranges.flatMap(range => drawRange(place, range))]);
 }
 
-/** The sheet of the words from one place on. */
-function wordSheet(place, model, from, isHit) {
-  const rows = place.nodes.slice(from, from + SHEET), [left, right] = edges(place.columns.slice(from, from + SHEET));
-  const node = sheet(place, Math.floor(left), Math.ceil(right), { class: 'words', role: 'none' });
-  const labels = svg('g', { 'aria-hidden': 'true' });
+/** A sheet of words, from one place on. */
+function wordSheet(place, model, rows, from, isHit) {
+  const [left, right] = edges(place.columns.slice(from, from + rows.length)), labels = svg('g', { 'aria-hidden': 'true' });
   labels.append(...rows.flatMap((_, i) => drawLinks(place, from + i)));
-  node.append(...rows.map((row, i) => drawWord(place, model, row, from + i, isHit(row))), labels);
-  return node;
+  return sheet(place, Math.floor(left), Math.ceil(right), { class: 'words', role: 'none' },
+    [...rows.map((row, i) => drawWord(place, model, row, from + i, isHit(row))), labels]);
 }
 
-/** Lifts the arcs of the word under the pointer. */
-function lifting(lines) {
+/** Lifts the arcs of the word under the pointer: they are drawn once more, above the others. */
+function lifting(lines, lifted) {
   return event => {
-    const at = event.target.closest('.word')?.dataset.at;
-    for (const { classList, dataset } of lines.children) {
-      classList.toggle('lifted', at !== undefined && (dataset.to === at || dataset.from === at));
-    }
+    const at = Number(event.target.closest('.word')?.dataset.at ?? NaN);
+    lifted.replaceChildren(...drawLines(lines.filter(({ from, to }) => from === at || to === at)));
   };
 }
 
@@ -316,16 +330,15 @@ function dragging(picture, nodes, onHead) {
  * another, and the ID of that.
  */
 export function drawTree(rows, { isEnhanced, hit, onPick, onHead }) {
-  const place = layout(rows, isEnhanced);
+  const place = layout(rows, isEnhanced), lines = [...linesAbove(place), ...linesBelow(place)];
   const isHit = row => hit && row.kind === 'word' && row.first >= hit[0] && row.first <= hit[1];
-  const picture = document.createElement('div'), arcs = arcSheet(place), model = wordAt(place);
+  const picture = document.createElement('div'), model = wordAt(place), lifted = svg('g', { class: 'lifted' }), lift = lifting(lines, lifted);
   setAll(picture, { class: 'tree-picture', role: 'list', 'aria-label': `Dependency tree, ${place.nodes.length} words` });
   picture.style.width = `${place.width}px`;
   picture.style.aspectRatio = `${place.width} / ${place.height}`;
-  picture.append(arcs);
-  for (let from = 0; from < place.nodes.length; from += SHEET) picture.append(wordSheet(place, model, from, isHit));
-  picture.addEventListener('pointerover', lifting(arcs.firstChild));
-  picture.addEventListener('pointerleave', lifting(arcs.firstChild));
+  picture.append(arcSheet(place, lines, lifted), ...inSheets(place.nodes).map((some, i) => wordSheet(place, model, some, i * SHEET, isHit)));
+  picture.addEventListener('pointerover', lift);
+  picture.addEventListener('pointerleave', lift);
   picture.addEventListener('click', event => {
     const word = event.target.closest('.word');
     if (word) onPick(place.nodes[word.dataset.at].at);

@@ -1,5 +1,6 @@
 use Rattle.std.proofs.Common.{◌≡◌, ◌+◌, ◌-◌, ◌++◌, ◌<◌, length, nat_eq, true, false, Some, slice_get, refl, sym, ap, subst, ◌∙◌, arith, append-nil}
 use Rattle.std.proofs.lemmas.List.{length-map}
+use Rattle.std.proofs.lemmas.Bool.{eq-eqb}
 use Rattle.std.proofs.lemmas.Bool.Decides.{nat_tests}
 use Rattle.sqlite_trees.specs.Tree.{IsAscending}
 use Rattle.tb_core.specs.declared.refusals.Fault.TheVariants.{Memory}
@@ -44,7 +45,7 @@ loop-row-preserved g c =
                         (subst (λ l. IsAscending (λ a b. a < b) l → w.is_among-is_pulled.result ≡ is_listed (c.loop-row.no + 1) l) list w.is_among-is_pulled.ensures) in
                         let line = w.in_ok-read_line.ensures.answered clean s still it.0 there it.3 flag in
                         let batch : c.row-item.result.batch ≡ it.0.batch = ap (λ (r : Sentence). r.batch) it.3 in
-                        let its : nat_eq it.0.batch c.args.batch ≡ true = grind (arith, nat_tests, batch, w.if-row-batch.true) in
+                        let its : nat_eq it.0.batch c.args.batch ≡ true = eq-eqb it.0.batch c.args.batch (sym batch ∙ w.if-row-batch.true) in
                         with_line c.args.batch i s.sentences it.0 _ c.loop-row.lines.items _ it.2 its (line ∙ ap (λ n. sentence_line n it.0) at) w.in_ok-push.ensures.items (was.1 same),
                   ),
             ))

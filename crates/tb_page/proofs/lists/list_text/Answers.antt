@@ -6,8 +6,8 @@ use Rattle.tb_page.specs.Lists.{IsList, RefusesList}
 use Rattle.tb_page.specs.Paths.{list_by}
 use Rattle.tb_page.proofs.lists.list_text.Goals as goal
 
-pub returns-in-Batches : goal.returns-in-Batches
-returns-in-Batches g c =
+pub returns-in-Batches-clause-read : goal.returns-in-Batches-clause-read
+returns-in-Batches-clause-read g c =
     let told = c.view_batches.ensures in
     subst (λ l. IsReadResult g.S.Store c.args.desk.now c.view_batches.new.desk c.view_batches.result (λ s v. IsList s (list_by l) v.items) (λ cause s. IsReportedAs cause (RefusesList s (list_by l)))) (sym c.in-Batches.is) (record {
       answered = told.answered;
@@ -15,8 +15,8 @@ returns-in-Batches g c =
       read_only = told.read_only;
     })
 
-pub returns-in-Sentences : goal.returns-in-Sentences
-returns-in-Sentences g c =
+pub returns-in-Sentences-clause-read : goal.returns-in-Sentences-clause-read
+returns-in-Sentences-clause-read g c =
     let told = c.numbered_sentences.ensures in
     subst (λ l. IsReadResult g.S.Store c.args.desk.now c.numbered_sentences.new.desk c.numbered_sentences.result (λ s v. IsList s (list_by l) v.items) (λ cause s. IsReportedAs cause (RefusesList s (list_by l)))) (sym c.in-Sentences.is) (record {
       answered = told.answered;
@@ -24,8 +24,8 @@ returns-in-Sentences g c =
       read_only = told.read_only;
     })
 
-pub returns-in-SentId : goal.returns-in-SentId
-returns-in-SentId g c =
+pub returns-in-SentId-clause-read : goal.returns-in-SentId-clause-read
+returns-in-SentId-clause-read g c =
     let told = c.with_escaped_id.ensures in
     subst (λ l. IsReadResult g.S.Store c.args.desk.now c.with_escaped_id.new.desk c.with_escaped_id.result (λ s v. IsList s (list_by l) v.items) (λ cause s. IsReportedAs cause (RefusesList s (list_by l)))) (sym c.in-SentId.is) (record {
       answered = told.answered;

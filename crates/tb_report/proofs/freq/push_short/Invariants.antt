@@ -1,6 +1,6 @@
-use Rattle.std.proofs.Common.{◌≡◌, ◌++◌, map}
+use Rattle.std.proofs.Common.{◌≡◌, ◌++◌, [], map}
 use Rattle.tb_report.specs.Kept.{ranked_row, rows_of, short_rows}
 use Rattle.tb_report.proofs.freq.push_short.Given as goal
 
 abbrev pub invariant-loop-key : goal.invariant-loop-key
-invariant-loop-key l = map ranked_row l.ranks.items ++ rows_of l.key-iterator ≡ map ranked_row l.initial.ranks.items ++ short_rows l.short.entries
+invariant-loop-key l = (map ranked_row l.ranks.items ++ rows_of l.key-iterator ≡ map ranked_row l.initial.ranks.items ++ short_rows l.short.entries) × (l.short.entries ≡ [] → l.key-iterator ≡ [])
