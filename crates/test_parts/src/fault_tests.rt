@@ -2,7 +2,7 @@
 
 use crate::cases::{Question, assert_answers};
 use crate::files::{COFFEE_AND_TEA, DOGS_BARK, VAMONOS, unfolded};
-use crate::telling::{assert_text, push_value, put};
+use crate::telling::{assert_text, push_value, put, replaced};
 use std::alloc::Global;
 use std::process::Abort;
 use tb_check::{Fault, faults_of};
@@ -99,27 +99,21 @@ fn tells_every_broken_rule(rt: HostRuntime) {
 
 /// Four sentences. The first has no text, and the second has its name. The third has two names, so it has none; one of
 /// these is the name of the last.
-const NAMES: &str = "\
-    # sent_id = a\n\
-    1\tGo\t_\tVERB\t_\t_\t0\troot\t_\t_\n\
-    \n\
-    # sent_id = a\n\
-    # text = Go\n\
-    1\tGo\t_\tVERB\t_\t_\t0\troot\t_\t_\n\
-    \n\
-    # sent_id = a\n\
-    # sent_id = b\n\
-    # text = Go\n\
-    1\tGo\t_\tVERB\t_\t_\t0\troot\t_\t_\n\
-    \n\
-    # sent_id = b\n\
-    # text = Go\n\
-    1\tGo\t_\tVERB\t_\t_\t0\troot\t_\t_\n\
-    \n";
+const NAMES: &str =
+    "# sent_id = a¶GO¶¶# sent_id = a¶# text = Go¶GO¶¶# sent_id = a¶# sent_id = b¶# text = Go¶GO¶¶\
+    # sent_id = b¶# text = Go¶GO¶¶";
+
+/// The file of these sentences. `GO` stands for their word.
+fn names(rt: &impl Abort, alloc: Global) -> String {
+    let row = "1\tGo\t_\tVERB\t_\t_\t0\troot\t_\t_";
+    let text = replaced(rt, alloc, NAMES, "GO", row);
+    unfolded(rt, alloc, text.as_str())
+}
 
 #[test]
 fn tells_names_that_come_twice(rt: HostRuntime) {
-    let file = NAMES.as_bytes();
+    let text = names(&rt, rt.alloc());
+    let file = text.as_bytes();
     assert_told(&rt, rt.alloc(), file, 9, "1 2 0, 2 12 0, 3 1 0, ");
     assert_told(&rt, rt.alloc(), file, 2, "1 2 0, 2 12 0, ");
 }
@@ -160,7 +154,8 @@ fn rules_told(rt: &impl Abort, alloc: Global, sentence: &BlockRef<'_>) -> String
 fn tells_faults_of_lines_and_of_a_sentence(rt: HostRuntime) {
     let lines = lines_told(&rt, rt.alloc(), b"x\n");
     assert_text(&rt, lines.as_str(), "1 4, 2 10, ", "a line");
-    let blocks = read_ref(rt.alloc(), NAMES.as_bytes()).expect(&rt, "error");
+    let file = names(&rt, rt.alloc());
+    let blocks = read_ref(rt.alloc(), file.as_bytes()).expect(&rt, "error");
     let third = blocks.get(2).expect(&rt, "a sentence");
     let rules = rules_told(&rt, rt.alloc(), third);
     assert_text(&rt, rules.as_str(), "1 0, ", "a sentence");

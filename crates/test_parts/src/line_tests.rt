@@ -45,25 +45,24 @@ fn told<L: Debug>(rt: &impl Abort, alloc: Global, read: &Result<L, LineFault>) -
     }
 }
 
-/// What words say to treedesk.
-struct Words;
-
-impl Question for Words {
-    fn answer(&self, rt: &impl Abort, alloc: Global, asked: &str) -> String {
-        let words = words_of(rt, alloc, "treedesk", asked);
-        let read = Line::read(alloc, &words);
-        told(rt, alloc, &read)
-    }
+/// A program, which is asked what words say to it.
+enum Program {
+    Treedesk,
+    Deskview,
 }
 
-/// What words say to deskview.
-struct ViewWords;
-
-impl Question for ViewWords {
+impl Question for Program {
     fn answer(&self, rt: &impl Abort, alloc: Global, asked: &str) -> String {
-        let words = words_of(rt, alloc, "deskview", asked);
-        let read = ViewLine::read(alloc, &words);
-        told(rt, alloc, &read)
+        match self {
+            Program::Treedesk => {
+                let words = words_of(rt, alloc, "treedesk", asked);
+                told(rt, alloc, &Line::read(alloc, &words))
+            }
+            Program::Deskview => {
+                let words = words_of(rt, alloc, "deskview", asked);
+                told(rt, alloc, &ViewLine::read(alloc, &words))
+            }
+        }
     }
 }
 
@@ -170,7 +169,7 @@ const LINES: &str = "\
 
 #[test]
 fn words_are_read(rt: HostRuntime) {
-    assert_alternatives(&rt, rt.alloc(), &Words, LINES, 102)
+    assert_alternatives(&rt, rt.alloc(), &Program::Treedesk, LINES, 102)
 }
 
 /// Each list; values without their form, and no file; words that clap refuses; help and the version; no word at all.
@@ -241,5 +240,5 @@ const VIEW_LINES: &str = "\
 
 #[test]
 fn words_of_deskview_are_read(rt: HostRuntime) {
-    assert_alternatives(&rt, rt.alloc(), &ViewWords, VIEW_LINES, 85)
+    assert_alternatives(&rt, rt.alloc(), &Program::Deskview, VIEW_LINES, 85)
 }

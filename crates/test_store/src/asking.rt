@@ -1,7 +1,7 @@
 //! Commands of a desk and questions to it, and what the desk holds after them, each as a line of text.
 
 use crate::files::body_of;
-use crate::telling::{error_text, joined, put, replaced, reported, said, text_of};
+use crate::telling::{assert_reported, error_text, joined, put, replaced, reported, said, text_of};
 use sqlite::Alter;
 use std::alloc::Global;
 use std::process::Abort;
@@ -99,6 +99,25 @@ fn commanded<S: Alter>(rt: &impl Abort, alloc: Global, desk: &mut Desk<S>, line:
     reply_text(rt, alloc, reply)
 }
 
+/// What brings a file to release. `NAME` stands for the batch, and `FILE` for the file.
+const PUBLISHING: &str = "\
+    import NAME ann FILE\n\
+    assign NAME ann\n\
+    submit NAME ann\n\
+    adjudicate NAME ben\n\
+    release NAME cem\n";
+
+/// `publish NAME FILE`: imports a file as a batch, and releases it. The answer is the last one.
+fn published<S: Alter>(rt: &impl Abort, alloc: Global, desk: &mut Desk<S>, line: &str) -> String {
+    let commands = replaced(rt, alloc, PUBLISHING, "NAME", word_at(line, 1));
+    let commands = replaced(rt, alloc, commands.as_str(), "FILE", word_at(line, 2));
+    let mut answer = String::new(alloc);
+    for command in commands.as_str().lines() {
+        answer = commanded(rt, alloc, desk, command);
+    }
+    answer
+}
+
 /// `revision NUMBER REV`.
 fn revised<S: Alter>(rt: &impl Abort, alloc: Global, desk: &mut Desk<S>, line: &str) -> String {
     let revision = desk.revision(number_at(rt, line, 1), number_at(rt, line, 2));
@@ -143,118 +162,78 @@ fn cut<S: Alter>(rt: &impl Abort, alloc: Global, desk: &mut Desk<S>, line: &str)
 }
 
 /// `search STRATEGY CONTEXT QUERY`.
-fn put_search<S: Alter>(
-    rt: &impl Abort,
-    alloc: Global,
-    desk: &mut Desk<S>,
-    line: &str,
-    out: &mut Vec<u8>,
-) -> Result<u64, Fault> {
+fn searched<S: Alter>(rt: &impl Abort, alloc: Global, desk: &mut Desk<S>, line: &str) -> String {
     let context = number_at(rt, line, 2).min(20) as u8;
-    put_hits(rt, alloc, desk, line, context, out)
+    let mut out: Vec<u8> = Vec::new(alloc);
+    let answer = put_hits(rt, alloc, desk, line, context, &mut out);
+    shown(rt, alloc, &answer, out.as_slice())
 }
 
-/// `count STRATEGY COLUMN QUERY`.
-fn put_count<S: Alter>(
-    rt: &impl Abort,
-    alloc: Global,
-    desk: &mut Desk<S>,
-    line: &str,
-    out: &mut Vec<u8>,
-) -> Result<u64, Fault> {
+/// What a question is answered that lists.
+type Answer = Result<String, Fault>;
+
+/// A table, after a number.
+fn listed(rt: &impl Abort, alloc: Global, number: u64, table: &impl Table) -> String {
+    let mut csv: Vec<u8> = Vec::new(alloc);
+    write_csv(alloc, table, &mut csv).expect(rt, "a table");
+    shown(rt, alloc, &Ok(number), csv.as_slice())
+}
+
+/// `count STRATEGY COLUMN QUERY`: the sum of the rows, and the table.
+fn count<S: Alter>(rt: &impl Abort, alloc: Global, desk: &mut Desk<S>, line: &str) -> Answer {
     let query = query_of(rt, alloc, line);
     let column = attribute_of(word_at(line, 2)).expect(rt, line);
     let counted = desk.count(&query, strategy_at(rt, line), column);
-    put_table(rt, alloc, counted, out)
+    table_of(rt, alloc, counted)
 }
 
-/// Writes a table, and returns the sum of its rows. The query of the table is no value here, so that no exit drops it.
-fn put_table(
-    rt: &impl Abort,
-    alloc: Global,
-    counted: Result<Freq, Fault>,
-    out: &mut Vec<u8>,
-) -> Result<u64, Fault> {
+/// The table of a count. The query is no value here, so that no exit drops it.
+fn table_of(rt: &impl Abort, alloc: Global, counted: Result<Freq, Fault>) -> Answer {
     let table = counted?;
-    write_csv(alloc, &table, out).expect(rt, "a table");
-    Ok(table.total())
+    Ok(listed(rt, alloc, table.total(), &table))
 }
 
 /// `batches`: how many there are, and their list.
-fn put_batches<S: Alter>(
-    rt: &impl Abort,
-    alloc: Global,
-    desk: &mut Desk<S>,
-    out: &mut Vec<u8>,
-) -> Result<u64, Fault> {
-    let batches = desk.batches()?;
-    write_csv(alloc, &batches, out).expect(rt, "batches");
-    Ok(batches.len() as u64)
+fn batches<S: Alter>(rt: &impl Abort, alloc: Global, desk: &mut Desk<S>) -> Answer {
+    let lines = desk.batches()?;
+    Ok(listed(rt, alloc, lines.len() as u64, &lines))
 }
 
 /// `sentences NAME`: how many a batch has, and their list.
-fn put_sentences<S: Alter>(
-    rt: &impl Abort,
-    alloc: Global,
-    desk: &mut Desk<S>,
-    line: &str,
-    out: &mut Vec<u8>,
-) -> Result<u64, Fault> {
-    let sentences = desk.sentences(word_at(line, 1))?;
-    write_csv(alloc, &sentences, out).expect(rt, line);
-    Ok(sentences.len() as u64)
+fn sentences<S: Alter>(rt: &impl Abort, alloc: Global, desk: &mut Desk<S>, line: &str) -> Answer {
+    let lines = desk.sentences(word_at(line, 1))?;
+    Ok(listed(rt, alloc, lines.len() as u64, &lines))
 }
 
 /// `revisions NUMBER`: how many a sentence has, and their list.
-fn put_revisions<S: Alter>(
-    rt: &impl Abort,
-    alloc: Global,
-    desk: &mut Desk<S>,
-    line: &str,
-    out: &mut Vec<u8>,
-) -> Result<u64, Fault> {
-    let revisions = desk.revisions(number_at(rt, line, 1))?;
-    write_csv(alloc, &revisions, out).expect(rt, line);
-    Ok(revisions.len() as u64)
+fn revisions<S: Alter>(rt: &impl Abort, alloc: Global, desk: &mut Desk<S>, line: &str) -> Answer {
+    let lines = desk.revisions(number_at(rt, line, 1))?;
+    Ok(listed(rt, alloc, lines.len() as u64, &lines))
 }
 
 /// `find SENT_ID`: the number of the sentence, and its line.
-fn put_found<S: Alter>(
-    rt: &impl Abort,
-    alloc: Global,
-    desk: &mut Desk<S>,
-    line: &str,
-    out: &mut Vec<u8>,
-) -> Result<u64, Fault> {
+fn find<S: Alter>(rt: &impl Abort, alloc: Global, desk: &mut Desk<S>, line: &str) -> Answer {
     let found = desk.find(word_at(line, 1))?;
-    write_csv(alloc, &found, out).expect(rt, line);
-    Ok(found.no)
+    Ok(listed(rt, alloc, found.no, &found))
 }
 
-/// Writes the answer to a question, and returns the number that comes before it. `None` where the line asks nothing.
-fn put_answer<S: Alter>(
-    rt: &impl Abort,
-    alloc: Global,
-    desk: &mut Desk<S>,
-    line: &str,
-    out: &mut Vec<u8>,
-) -> Option<Result<u64, Fault>> {
+/// The answer to a question that lists. `None` where the line asks none.
+fn ask<S: Alter>(rt: &impl Abort, alloc: Global, desk: &mut Desk<S>, line: &str) -> Option<Answer> {
     match word_at(line, 0) {
-        "search" => Some(put_search(rt, alloc, desk, line, out)),
-        "count" => Some(put_count(rt, alloc, desk, line, out)),
-        "batches" => Some(put_batches(rt, alloc, desk, out)),
-        "sentences" => Some(put_sentences(rt, alloc, desk, line, out)),
-        "revisions" => Some(put_revisions(rt, alloc, desk, line, out)),
-        "find" => Some(put_found(rt, alloc, desk, line, out)),
+        "count" => Some(count(rt, alloc, desk, line)),
+        "batches" => Some(batches(rt, alloc, desk)),
+        "sentences" => Some(sentences(rt, alloc, desk, line)),
+        "revisions" => Some(revisions(rt, alloc, desk, line)),
+        "find" => Some(find(rt, alloc, desk, line)),
         _ => None,
     }
 }
 
-/// The answer to a question that writes, or to a command.
+/// The answer to a question that lists, or to a command.
 fn answered<S: Alter>(rt: &impl Abort, alloc: Global, desk: &mut Desk<S>, line: &str) -> String {
-    let mut out: Vec<u8> = Vec::new(alloc);
-    match put_answer(rt, alloc, desk, line, &mut out) {
-        Some(answer) => shown(rt, alloc, &answer, out.as_slice()),
+    match ask(rt, alloc, desk, line) {
+        Some(Ok(text)) => text,
+        Some(Err(fault)) => error_text(rt, alloc, &fault),
         None => commanded(rt, alloc, desk, line),
     }
 }
@@ -267,12 +246,26 @@ pub(crate) fn obeyed<S: Alter>(
     line: &str,
 ) -> String {
     match word_at(line, 0) {
+        "publish" => published(rt, alloc, desk, line),
         "revision" => revised(rt, alloc, desk, line),
         "number" => numbered(rt, alloc, desk, line),
         "cut" => cut(rt, alloc, desk, line),
+        "search" => searched(rt, alloc, desk, line),
         "standing" => standing(rt, alloc, desk),
         _ => answered(rt, alloc, desk, line),
     }
+}
+
+/// Asserts the answer of a desk to a line.
+pub(crate) fn assert_obeyed<S: Alter>(
+    rt: &impl Abort,
+    alloc: Global,
+    desk: &mut Desk<S>,
+    line: &str,
+    wanted: &str,
+) {
+    let answer = obeyed(rt, alloc, desk, line);
+    assert_reported(rt, answer.as_str(), wanted, line);
 }
 
 /// Appends the lines of a table, each after a space, without the header and without those that end in `but`.

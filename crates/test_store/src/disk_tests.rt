@@ -3,8 +3,8 @@
 ghost use Rattle.std.specs.Prelude.{◌≡◌, IsTrue, false};
 ghost use Rattle.sqlite_disk.specs.Memory.{memory_is_usable};
 
-use crate::asking::obeyed;
-use crate::telling::{assert_holds, assert_reported, assert_same};
+use crate::asking::assert_obeyed;
+use crate::telling::{assert_holds, assert_same};
 use sqlite::{Alter, Connection, FileStore, Options};
 use sqlite_disk::{Files, Memory};
 use std::alloc::Global;
@@ -81,18 +81,6 @@ fn assert_not_migrated<S: Alter + Drop>(rt: &impl Abort, alloc: Global, conn: Co
 
 fn assert_open<S: Alter>(rt: &impl Abort, desk: &mut Desk<S>) {
     assert_same(rt, &desk.is_open(), &Ok(true), "whether the desk is open");
-}
-
-/// Asserts the answer of a desk to a line.
-fn assert_obeyed<S: Alter>(
-    rt: &impl Abort,
-    alloc: Global,
-    desk: &mut Desk<S>,
-    line: &str,
-    wanted: &str,
-) {
-    let reported = obeyed(rt, alloc, desk, line);
-    assert_reported(rt, reported.as_str(), wanted, line);
 }
 
 /// Imports one batch. The desk is open before and after that.

@@ -1,8 +1,8 @@
 //! Runs scripts line by line, each on a desk in memory.
 
-use crate::asking::{number_at, obeyed};
+use crate::asking::{assert_obeyed, number_at, obeyed};
 use crate::scripts::{BODIES, REFUSALS, SEARCHES, WORK};
-use crate::telling::{assert_reported, error_text, joined, replaced};
+use crate::telling::{error_text, joined, replaced};
 use sqlite::MemStore;
 use std::alloc::Global;
 use std::process::Abort;
@@ -17,18 +17,6 @@ fn new_desk(rt: &impl Abort, alloc: Global, line: &str) -> Desk<MemStore> {
         hits: number_at(rt, line, 2).min(1_000_000),
     };
     Desk::in_memory(alloc, limits).expect(rt, line)
-}
-
-/// Asserts the answer to a line.
-fn assert_obeyed(
-    rt: &impl Abort,
-    alloc: Global,
-    desk: &mut Desk<MemStore>,
-    line: &str,
-    wanted: &str,
-) {
-    let answer = obeyed(rt, alloc, desk, line);
-    assert_reported(rt, answer.as_str(), wanted, line);
 }
 
 /// Asserts the answer to a line. Where the line has `BODY`, each of the bodies takes its place.
@@ -63,14 +51,6 @@ fn scripts_are_answered(rt: HostRuntime) {
     }
 }
 
-/// The commands that release `book`.
-const RELEASED: &str = "\
-    import b6 ann book\n\
-    assign b6 ann\n\
-    submit b6 ann\n\
-    adjudicate b6 ben\n\
-    release b6 cem\n";
-
 /// What a search finds there.
 const FOUND: &str =
     "s6/3/3/the old/book/on the;s6/6/6/on the/table/in the;s6/9/9/in the/room/;hits 3;";
@@ -82,9 +62,7 @@ const STANDING: &str = "\
 /// A desk that has released `book`.
 fn released(rt: &impl Abort, alloc: Global) -> Desk<MemStore> {
     let mut desk = new_desk(rt, alloc, "9 9 9");
-    for line in RELEASED.lines() {
-        obeyed(rt, alloc, &mut desk, line);
-    }
+    obeyed(rt, alloc, &mut desk, "publish b6 book");
     desk
 }
 

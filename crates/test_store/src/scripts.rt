@@ -14,11 +14,11 @@ pub(crate) const WORK: &str = "\
     revision 1 1 => refused 3 NoSuchSentence\n\
     search longest 5 [] => 0 hits 0;\n\
     batches => 0 no,name,state,worker,first,sentences,words,pulled,pulled_words;\n\
-    revisions 1 => refused 3 NoSuchSentence \n\
-    sentences b1 => refused 2 NoSuchBatch \n\
-    sentences b/1 => refused 1 BadName \n\
-    sentences  => refused 1 BadName \n\
-    find s1 => refused 3 NoSuchSentence \n\
+    revisions 1 => refused 3 NoSuchSentence\n\
+    sentences b1 => refused 2 NoSuchBatch\n\
+    sentences b/1 => refused 1 BadName\n\
+    sentences  => refused 1 BadName\n\
+    find s1 => refused 3 NoSuchSentence\n\
     standing => desk\n\
     \n\
     1000 1000 1000\n\
@@ -59,8 +59,8 @@ pub(crate) const WORK: &str = "\
     correct 1 2 ann can_not+dogs => refused 11 NotOne\n\
     revision 1 3 => refused 18 NoSuchRevision\n\
     revision 2 1 => refused 3 NoSuchSentence\n\
-    revisions 0 => refused 3 NoSuchSentence \n\
-    revisions 2 => refused 3 NoSuchSentence \n\
+    revisions 0 => refused 3 NoSuchSentence\n\
+    revisions 2 => refused 3 NoSuchSentence\n\
     submit b4 ann => moved batch=1 state=submitted sentences=1 words=4\n\
     correct 1 1 ann can_not => corrected sentence=1 rev=2 words=4\n\
     import b4 ann cannot => imported batch=1 first=1 sentences=1 words=3\n\
@@ -77,13 +77,13 @@ pub(crate) const WORK: &str = "\
     revisions 1 => 3 rev,who,kind,move;1,ann,import,1;2,ann,correct,3;3,ben,correct,5;\n\
     revisions 2 => 1 rev,who,kind,move;1,ann,import,6;\n\
     revisions 3 => 2 rev,who,kind,move;1,ann,import,6;2,cem,correct,8;\n\
-    revisions 4 => refused 3 NoSuchSentence \n\
+    revisions 4 => refused 3 NoSuchSentence\n\
     sentences b4 => 1 no,sent_id,rev,who,words,pulled,text;1,s4,3,ben,3,no,I cannot.;\n\
     find s4 => 1 no,batch,rev,words,pulled;1,b4,3,3,no;\n\
     find s7 => 2 no,batch,rev,words,pulled;2,b7,1,1,no;\n\
-    find s9 => refused 3 NoSuchSentence \n\
+    find s9 => refused 3 NoSuchSentence\n\
     sentences b7 => 2 no,sent_id,rev,who,words,pulled,text;2,s7,1,ann,1,no,Go;3,s1,2,cem,3,no,Dogs bark.;\n\
-    sentences b1 => refused 2 NoSuchBatch \n\
+    sentences b1 => refused 2 NoSuchBatch\n\
     \n\
     1000 1000 1000\n\
     import b1 ann dogs+go => imported batch=1 first=1 sentences=2 words=4\n\
@@ -157,11 +157,7 @@ pub(crate) const SEARCHES: &str = "\
     search shortest 0 phrases => 3 s6/3/3//book/;s6/6/6//table/;s6/9/9//room/;hits 3;\n\
     \n\
     1000 1000 1\n\
-    import b7 ann go => imported batch=1 first=1 sentences=1 words=1\n\
-    assign b7 ann => moved batch=1 state=assigned sentences=1 words=1\n\
-    submit b7 ann => moved batch=1 state=submitted sentences=1 words=1\n\
-    adjudicate b7 ben => moved batch=1 state=adjudicated sentences=1 words=1\n\
-    release b7 cem => moved batch=1 state=released sentences=1 words=1\n\
+    publish b7 go => moved batch=1 state=released sentences=1 words=1\n\
     search longest 0 []* => 1 s7/1/1//Go/;hits 1;\n\
     search longest 0 [upos=\"X\"]* => 0 hits 0;\n\
     search longest 0 [word=\"go\"%c & !feats contains \"X\"] => 1 s7/1/1//Go/;hits 1;\n\
@@ -173,11 +169,7 @@ pub(crate) const SEARCHES: &str = "\
     number every of []* => 0\n\
     \n\
     1000 1000 1000\n\
-    import b8 ann letters => imported batch=1 first=1 sentences=1 words=5\n\
-    assign b8 ann => moved batch=1 state=assigned sentences=1 words=5\n\
-    submit b8 ann => moved batch=1 state=submitted sentences=1 words=5\n\
-    adjudicate b8 ben => moved batch=1 state=adjudicated sentences=1 words=5\n\
-    release b8 cem => moved batch=1 state=released sentences=1 words=5\n\
+    publish b8 letters => moved batch=1 state=released sentences=1 words=5\n\
     count shortest lemma [] => 5 key,count;a,2;b,2;\"c,\"\"d\"\"\",1;\n\
     number shortest of [] => 5\n\
     \n\
@@ -193,11 +185,7 @@ pub(crate) const SEARCHES: &str = "\
     number longest of \"cannot\" => 0\n\
     \n\
     1000 1000 1000\n\
-    import b1 ann dogs+go => imported batch=1 first=1 sentences=2 words=4\n\
-    assign b1 ann => moved batch=1 state=assigned sentences=2 words=4\n\
-    submit b1 ann => moved batch=1 state=submitted sentences=2 words=4\n\
-    adjudicate b1 ben => moved batch=1 state=adjudicated sentences=2 words=4\n\
-    release b1 cem => moved batch=1 state=released sentences=2 words=4\n\
+    publish b1 dogs+go => moved batch=1 state=released sentences=2 words=4\n\
     search longest 0 []* => 2 s1/1/3//Dogs bark ./;s7/1/1//Go/;hits 2;\n\
     pull 1 dan => pulled sentence=1 words=3\n\
     search longest 0 []* => 1 s7/1/1//Go/;hits 1;\n\
@@ -208,21 +196,13 @@ pub(crate) const SEARCHES: &str = "\
     number longest of []* => 2\n\
     \n\
     1000 1000 500500\n\
-    import b9 ann thousand => imported batch=1 first=1 sentences=1 words=1000\n\
-    assign b9 ann => moved batch=1 state=assigned sentences=1 words=1000\n\
-    submit b9 ann => moved batch=1 state=submitted sentences=1 words=1000\n\
-    adjudicate b9 ben => moved batch=1 state=adjudicated sentences=1 words=1000\n\
-    release b9 cem => moved batch=1 state=released sentences=1 words=1000\n\
+    publish b9 thousand => moved batch=1 state=released sentences=1 words=1000\n\
     number every of []* => 500500\n\
     number longest of []* => 1\n\
     cut every 15 []* => the writer failed s9/1/1//w/w w;s\n\
     \n\
     1000 1000 500499\n\
-    import b9 ann thousand => imported batch=1 first=1 sentences=1 words=1000\n\
-    assign b9 ann => moved batch=1 state=assigned sentences=1 words=1000\n\
-    submit b9 ann => moved batch=1 state=submitted sentences=1 words=1000\n\
-    adjudicate b9 ben => moved batch=1 state=adjudicated sentences=1 words=1000\n\
-    release b9 cem => moved batch=1 state=released sentences=1 words=1000\n\
+    publish b9 thousand => moved batch=1 state=released sentences=1 words=1000\n\
     number every of []* => refused 22 TooManyHits\n";
 
 /// The texts that replace `BODY`: bodies that a correction of `dogs` refuses, one for each reason, two for several
