@@ -200,10 +200,13 @@ const NO_ANSWER = 'the desk did not answer. Does `deskview page` still run? What
 
 const unanswered = (line, words) => ({ ok: false, broken: false, status: 0, line, text: '', words, revision: 0 });
 
-/** Reads a response as it comes. Gives its text, and whether it broke off. */
+/**
+ * Reads a response as it comes. Gives its text, and whether it broke off. Firefox takes one for whole that has fewer bytes
+ * than its head says.
+ */
 async function read(response, onPart) {
-  const decode = decoder();
-  let text = '';
+  const decode = decoder(), length = Number(response.headers.get('Content-Length'));
+  let text = '', bytes = 0;
   const take = piece => {
     text += piece;
     if (response.ok) onPart?.(piece);
@@ -211,10 +214,11 @@ async function read(response, onPart) {
   try {
     const reader = response.body.getReader();
     for (let part = await reader.read(); !part.done; part = await reader.read()) {
+      bytes += part.value.length;
       take(decode.decode(part.value, { stream: true }));
     }
     take(decode.decode());
-    return { text, broken: false };
+    return { text, broken: bytes < length };
   } catch {
     return { text, broken: true };
   }

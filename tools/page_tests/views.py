@@ -217,7 +217,7 @@ def other_origins(driver):
 
 
 def cutting(desk, keep):
-    """A relay to the desk that breaks each search off after so many bytes of its lines. Gives its port, and what ends it."""
+    """A relay to the desk that breaks each search and count off after so many bytes. Gives its port, and what ends it."""
     listener = socket.create_server(("127.0.0.1", 0))
     port = listener.getsockname()[1]
 
@@ -231,7 +231,7 @@ def cutting(desk, keep):
             body += connection.recv(65536)
         answer = desk.raw(head.replace(b":%d" % port, b":%d" % desk.port) + b"\r\n\r\n" + body)
         start = answer.find(b"\r\n\r\n") + 4
-        connection.sendall(answer[:start + keep] if head.startswith(b"POST /search/") else answer)
+        connection.sendall(answer[:start + keep] if head.startswith((b"POST /search/", b"POST /count/")) else answer)
 
     def answer(connection):
         connection.settimeout(30)
@@ -252,17 +252,23 @@ def cutting(desk, keep):
 
 
 def broken_answers(driver):
-    """A search that breaks off is no number, wherever it does. A desk that does not answer is shown as that."""
+    """A search or a count that breaks off is no number, wherever it does. A desk that does not answer is shown as that."""
     desk, browser = Desk(), driver.browser()
     desk.put("news", sample("english"), *STEPS)
     whole = desk.ask("POST /search/longest/5", b"[]")[1].encode()
     lines = whole.count(b"\n") - 1
-    for keep, count in ((0, 0), (10, 0), (60, 1), (len(whole) - len(f"hits {lines}\n"), lines), (len(whole) - 1, lines)):
+    cut = [(0, 0), (10, 0), (60, 1), (len(whole) - len(f"hits {lines}\n"), lines), (len(whole) - 1, lines)]
+    table = desk.ask("POST /count/longest/lemma", b"[]")[1].encode()
+    for query, button, keep, said in (
+        *(("[]", "#search", keep, f"broke off after {count} line") for keep, count in cut),
+        ("[word=", "#search", len("refused 19 Query"), "broke off after 0 lines"),
+        *(("[]", "#count", keep, "broke off: count again") for keep in (8, table.find(b"\n", len(table) // 2) + 1, len(table) - 1)),
+    ):
         port, close = cutting(desk, keep)
         browser.go(f"http://127.0.0.1:{port}/#/search")
-        browser.type("#query", "[]")
-        browser.click("#search")
-        browser.see("#hits", f"broke off after {count} line")
+        browser.type("#query", query)
+        browser.click(button)
+        browser.see("#hits", said)
         same("a number to cite", None, browser.text("#cite"))
         close()
     at_board(browser, desk)

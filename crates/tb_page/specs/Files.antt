@@ -1,14 +1,14 @@
 -- The files of the page, as the folder page/ has them.
 use Rattle.std.specs.Prelude.{ℕ, List}
-use Rattle.tb_report.specs.declared.assets.rows.TheConstants.{ROWS_JS}
-use Rattle.tb_report.specs.declared.assets.style.TheConstants.{PAGE_CSS}
-use Rattle.tb_report.specs.declared.assets.tree.TheConstants.{TREE_JS}
-use Rattle.tb_page.specs.declared.assets.conllu.TheConstants.{CONLLU_JS}
-use Rattle.tb_page.specs.declared.assets.desk.TheConstants.{DESK_JS}
-use Rattle.tb_page.specs.declared.assets.edit.TheConstants.{EDIT_JS}
-use Rattle.tb_page.specs.declared.assets.find.TheConstants.{FIND_JS}
-use Rattle.tb_page.specs.declared.assets.index.TheConstants.{INDEX_HTML}
-use Rattle.tb_page.specs.declared.assets.page.TheConstants.{PAGE_JS}
+use Rattle.tb_assets.specs.declared.files.rows.TheConstants.{ROWS_JS}
+use Rattle.tb_assets.specs.declared.files.style.TheConstants.{PAGE_CSS}
+use Rattle.tb_assets.specs.declared.files.tree.TheConstants.{TREE_JS}
+use Rattle.tb_assets.specs.declared.files.conllu.TheConstants.{CONLLU_JS}
+use Rattle.tb_assets.specs.declared.files.desk.TheConstants.{DESK_JS}
+use Rattle.tb_assets.specs.declared.files.edit.TheConstants.{EDIT_JS}
+use Rattle.tb_assets.specs.declared.files.find.TheConstants.{FIND_JS}
+use Rattle.tb_assets.specs.declared.files.index.TheConstants.{INDEX_HTML}
+use Rattle.tb_assets.specs.declared.files.page.TheConstants.{PAGE_JS}
 use Rattle.tb_page.specs.declared.heads.Kind.{Kind}
 use Rattle.tb_page.specs.declared.heads.Kind.TheVariants.{Html, Css, JavaScript}
 use Rattle.tb_page.specs.declared.paths.File.{File}

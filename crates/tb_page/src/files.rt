@@ -1,9 +1,10 @@
 //! The files of the page.
 
-use crate::assets::{CONLLU_JS, DESK_JS, EDIT_JS, FIND_JS, INDEX_HTML, PAGE_JS};
 use crate::heads::Kind;
 use crate::paths::File;
-use tb_report::{PAGE_CSS, ROWS_JS, TREE_JS};
+use tb_assets::{
+    CONLLU_JS, DESK_JS, EDIT_JS, FIND_JS, INDEX_HTML, PAGE_CSS, PAGE_JS, ROWS_JS, TREE_JS,
+};
 
 impl File {
     ghost use Rattle.std.specs.Prelude.{◌≡◌};

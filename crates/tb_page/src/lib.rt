@@ -6,7 +6,6 @@
 #![tactic(auto)]
 
 mod answering;
-mod assets;
 mod files;
 mod guard;
 mod heads;

@@ -1,6 +1,6 @@
 //! The lists of the page.
 
-ghost use Rattle.std.specs.Prelude.{◌≡◌, Err as ErrOf, IfErr, IfOk};
+ghost use Rattle.std.specs.Prelude.{◌≡◌, ◌⊎◌, [], Err as ErrOf, IfErr, IfOk, IsOk};
 ghost use Rattle.std.specs.Str.{IsUtf8};
 ghost use Rattle.percent_encoding.specs.Percent.{percent_decode};
 ghost use Rattle.tb_answer.specs.OnlyRead.{IsReadResult};
@@ -50,6 +50,7 @@ fn copied(alloc: Global, text: &str) -> Result<Vec<u8>, Reply>
 fn unescaped(alloc: Global, text: &[u8]) -> Result<Vec<u8>, Reply>
     ensures bytes { IfOk result (λ v. v.items ≡ percent_decode text.now) }
     ensures failed { IfErr result (λ r. r ≡ Reply.Memory) }
+    ensures sure { percent_decode text.now ≡ [] → IsOk result }
 {
     let mut bytes = Vec::new(alloc);
     match percent_decode(text).append_to(&mut bytes) {
@@ -73,8 +74,10 @@ fn with_id<S: Alter>(alloc: Global, desk: &mut Desk<S>, id: &[u8]) -> Result<Vec
 
 /// The sentence with a `sent_id`, in which percent escapes stand for bytes.
 fn with_escaped_id<S: Alter>(alloc: Global, desk: &mut Desk<S>, id: &[u8]) -> Result<Vec<u8>, Reply>
-    ensures { IsReadResult S.Store desk.old desk.new result (λ s v. IsWithId s (percent_decode id.now) v.items)
+    ensures read { IsReadResult S.Store desk.old desk.new result (λ s v. IsWithId s (percent_decode id.now) v.items)
         (λ cause s. IsReportedAs cause (LacksId s (percent_decode id.now))) }
+    ensures unreadable { (IsUtf8 (percent_decode id.now) → ⊥) → (desk.new ≡ desk.old)
+        × ((result ≡ ErrOf (Reply.Refused Refusal.NoSuchSentence)) ⊎ (result ≡ ErrOf Reply.Memory)) }
 {
     match unescaped(alloc, id) {
         Ok(id) => with_id(alloc, desk, id.as_slice()),

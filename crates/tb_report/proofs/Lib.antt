@@ -12,6 +12,3 @@ pub mod WordLists
 pub mod HitTexts
 pub mod CsvRows
 pub mod Unwrapped
-pub mod Escapes
-pub mod Grown
-mod Pages

@@ -2,5 +2,4 @@ pub mod Tables
 pub mod Kept
 pub mod Keywords
 pub mod Csv
-pub mod Trees
 pub mod FaultList

@@ -1,11 +1,10 @@
 //! Reports what a search found: keyword lines, keys of hits, frequency tables and CSV. It also lists the faults of a
-//! file, and makes the page of a sentence's tree.
+//! file.
 //!
 //! Read `specs/Keywords.antt` and `specs/Tables.antt` first. Then read `kwic` in `keyword.rt` and `Freq` in
 //! `freq.rt`.
 #![tactic(auto)]
 
-mod assets;
 mod counts;
 mod csvs;
 mod fault;
@@ -14,17 +13,14 @@ mod freq;
 mod keyword;
 mod laws;
 mod table;
-mod trees;
 mod words;
 
-pub use assets::{PAGE_CSS, ROWS_JS, TREE_JS};
 pub use fault::ReportFault;
 pub use faults::{FaultRow, faults_text};
 pub use freq::Freq;
 pub use keyword::{key, kwic, kwic_named, word_key};
 pub use laws::{
-    counts_sum_to_keys, keys_have_one_table, order_of_keys_is_nothing, pages_of_trees_are_html,
-    sentences_begin_no_tag, table_has_one_ranking, tables_add_up,
+    counts_sum_to_keys, keys_have_one_table, order_of_keys_is_nothing, table_has_one_ranking,
+    tables_add_up,
 };
 pub use table::{Table, TableRow, put_row, rows_text, write_csv};
-pub use trees::trees_page;

@@ -26,7 +26,7 @@ returns-in-Sentences-clause-read g c =
 
 pub returns-in-SentId-clause-read : goal.returns-in-SentId-clause-read
 returns-in-SentId-clause-read g c =
-    let told = c.with_escaped_id.ensures in
+    let told = c.with_escaped_id.ensures.read in
     subst (λ l. IsReadResult g.S.Store c.args.desk.now c.with_escaped_id.new.desk c.with_escaped_id.result (λ s v. IsList s (list_by l) v.items) (λ cause s. IsReportedAs cause (RefusesList s (list_by l)))) (sym c.in-SentId.is) (record {
       answered = told.answered;
       reported = told.reported;

@@ -1,9 +1,9 @@
 use Rattle.std.proofs.Common.{◌++◌, ◌∙◌, ap}
-use Rattle.tb_report.specs.declared.assets.rows.TheConstants.{ROWS_JS}
-use Rattle.tb_report.specs.declared.assets.tree.TheConstants.{TREE_JS}
-use Rattle.tb_report.specs.declared.assets.trees.TheConstants.{TREES_JS, TREES_SCRIPT}
-use Rattle.tb_report.proofs.Grown.{one_more}
-use Rattle.tb_report.proofs.trees.push_script.Goals as goal
+use Rattle.tb_assets.specs.declared.files.rows.TheConstants.{ROWS_JS}
+use Rattle.tb_assets.specs.declared.files.tree.TheConstants.{TREE_JS}
+use Rattle.tb_assets.specs.declared.parts.TheConstants.{TREES_JS, TREES_SCRIPT}
+use Rattle.tb_assets.proofs.Grown.{one_more}
+use Rattle.tb_assets.proofs.trees.push_script.Goals as goal
 
 pub returns : goal.returns
 returns c =

@@ -1,11 +1,11 @@
 -- The ends of the parts of a page of trees.
 use Rattle.std.proofs.Common.{◌≡◌, ℕ, List, ◌++◌, take, drop, codes, refl, sym, ap, ◌∙◌, append_assoc}
 use Rattle.std.proofs.lemmas.List.{take-append-drop}
-use Rattle.tb_report.specs.declared.assets.rows.TheConstants.{ROWS_JS}
-use Rattle.tb_report.specs.declared.assets.style.TheConstants.{PAGE_CSS}
-use Rattle.tb_report.specs.declared.assets.tree.TheConstants.{TREE_JS}
-use Rattle.tb_report.specs.declared.assets.trees.TheConstants.{TREES_BODY, TREES_END, TREES_HEAD, TREES_JS, TREES_SCRIPT}
-use Rattle.tb_report.specs.Trees.{escaped, trees_head, trees_page, trees_script}
+use Rattle.tb_assets.specs.declared.files.rows.TheConstants.{ROWS_JS}
+use Rattle.tb_assets.specs.declared.files.style.TheConstants.{PAGE_CSS}
+use Rattle.tb_assets.specs.declared.files.tree.TheConstants.{TREE_JS}
+use Rattle.tb_assets.specs.declared.parts.TheConstants.{TREES_BODY, TREES_END, TREES_HEAD, TREES_JS, TREES_SCRIPT}
+use Rattle.tb_assets.specs.Trees.{escaped, trees_head, trees_page, trees_script}
 
 -- the number of bytes before the element of the sentences
 abbrev front : ℕ

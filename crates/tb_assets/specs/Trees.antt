@@ -1,10 +1,10 @@
 -- A page of trees: sentences as text of HTML, after the style and before the script that draws them.
 use Rattle.std.specs.Prelude.{◌≢◌, ℕ, List, [], ◌∷◌, ◌++◌, codes, if◌then◌else◌, nat_eq}
 use Rattle.std.specs.List.{AllByRecursion, flat_map}
-use Rattle.tb_report.specs.declared.assets.rows.TheConstants.{ROWS_JS}
-use Rattle.tb_report.specs.declared.assets.style.TheConstants.{PAGE_CSS}
-use Rattle.tb_report.specs.declared.assets.tree.TheConstants.{TREE_JS}
-use Rattle.tb_report.specs.declared.assets.trees.TheConstants.{TREES_BODY, TREES_END, TREES_HEAD, TREES_JS, TREES_SCRIPT}
+use Rattle.tb_assets.specs.declared.files.rows.TheConstants.{ROWS_JS}
+use Rattle.tb_assets.specs.declared.files.style.TheConstants.{PAGE_CSS}
+use Rattle.tb_assets.specs.declared.files.tree.TheConstants.{TREE_JS}
+use Rattle.tb_assets.specs.declared.parts.TheConstants.{TREES_BODY, TREES_END, TREES_HEAD, TREES_JS, TREES_SCRIPT}
 
 -- A byte as text of HTML. An ampersand, and the sign with which a tag begins, have names.
 abbrev pub escaped_byte : ℕ → List ℕ

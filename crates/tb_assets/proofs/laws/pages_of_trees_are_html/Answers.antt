@@ -1,5 +1,5 @@
-use Rattle.tb_report.proofs.Pages.{begins, sentences, ends}
-use Rattle.tb_report.proofs.laws.pages_of_trees_are_html.Goals as goal
+use Rattle.tb_assets.proofs.Pages.{begins, sentences, ends}
+use Rattle.tb_assets.proofs.laws.pages_of_trees_are_html.Goals as goal
 
 pub returns-clause-begins : goal.returns-clause-begins
 returns-clause-begins c = begins

@@ -1,11 +1,10 @@
 //! A page of trees: one file that a browser shows without a desk, as for a handout.
 
 ghost use Rattle.std.specs.Prelude.{◌≡◌, ◌++◌, [], IfOk, IsOk, OnOk};
-ghost use Rattle.tb_report.specs.Trees.{escaped, escaped_byte, trees_head, trees_page, trees_script};
+ghost use Rattle.tb_assets.specs.Trees.{escaped, escaped_byte, trees_head, trees_page, trees_script};
 
-use crate::assets::{
-    PAGE_CSS, ROWS_JS, TREE_JS, TREES_BODY, TREES_END, TREES_HEAD, TREES_JS, TREES_SCRIPT,
-};
+use crate::files::{PAGE_CSS, ROWS_JS, TREE_JS};
+use crate::parts::{TREES_BODY, TREES_END, TREES_HEAD, TREES_JS, TREES_SCRIPT};
 use std::alloc::{AllocError, Global};
 
 /// Appends what comes before the sentences.

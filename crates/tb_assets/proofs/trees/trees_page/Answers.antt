@@ -1,6 +1,6 @@
 use Rattle.std.proofs.Common.{◌++◌, ◌∙◌, ap, ap₂}
-use Rattle.tb_report.specs.Trees.{escaped, trees_head, trees_page, trees_script}
-use Rattle.tb_report.proofs.trees.trees_page.Goals as goal
+use Rattle.tb_assets.specs.Trees.{escaped, trees_head, trees_page, trees_script}
+use Rattle.tb_assets.proofs.trees.trees_page.Goals as goal
 
 pub returns : goal.returns
 unfolding trees_page

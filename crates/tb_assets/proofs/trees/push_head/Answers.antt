@@ -1,8 +1,8 @@
 use Rattle.std.proofs.Common.{◌++◌, ◌∙◌, ap}
-use Rattle.tb_report.specs.declared.assets.style.TheConstants.{PAGE_CSS}
-use Rattle.tb_report.specs.declared.assets.trees.TheConstants.{TREES_BODY, TREES_HEAD}
-use Rattle.tb_report.proofs.Grown.{one_more}
-use Rattle.tb_report.proofs.trees.push_head.Goals as goal
+use Rattle.tb_assets.specs.declared.files.style.TheConstants.{PAGE_CSS}
+use Rattle.tb_assets.specs.declared.parts.TheConstants.{TREES_BODY, TREES_HEAD}
+use Rattle.tb_assets.proofs.Grown.{one_more}
+use Rattle.tb_assets.proofs.trees.push_head.Goals as goal
 
 pub returns : goal.returns
 returns c =

@@ -1,7 +1,7 @@
 -- A text of HTML begins no tag.
 use Rattle.std.proofs.Common.{◌≡◌, ◌≢◌, ◌∙◌, ℕ, List, [], ◌∷◌, ◌++◌, Bool, true, false, cond, nat_eq, codes, refl, sym}
 use Rattle.std.proofs.lemmas.Bool.{eq-eqb}
-use Rattle.tb_report.specs.Trees.{BeginsNoTag, escaped, escaped_byte}
+use Rattle.tb_assets.specs.Trees.{BeginsNoTag, escaped, escaped_byte}
 
 -- a byte whose number is not that of the sign
 differs : (b : ℕ) → nat_eq b 60 ≡ false → b ≢ 60

@@ -1,6 +1,6 @@
 use Rattle.std.proofs.Common.{◌≡◌, ◌++◌, drop}
-use Rattle.tb_report.specs.Trees.{escaped}
-use Rattle.tb_report.proofs.trees.push_escaped.Given as goal
+use Rattle.tb_assets.specs.Trees.{escaped}
+use Rattle.tb_assets.proofs.trees.push_escaped.Given as goal
 
 abbrev pub invariant-loop-byte : goal.invariant-loop-byte
 invariant-loop-byte l = l.page.items ++ escaped (drop l.byte-index l.text) ≡ l.fn.page.items ++ escaped l.text
