@@ -1,5 +1,5 @@
 -- One step more along a circle.
-use Rattle.std.proofs.Common.{◌≡◌, ◌∙◌, ◌++◌, ◌+◌, ◌<◌, ℕ, suc, List, ap, below_more, codes, decimal}
+use Rattle.std.proofs.Common.{◌≡◌, ◌∙◌, ◌++◌, ◌+◌, ℕ, suc, List, ap, below_more, codes, decimal}
 use Rattle.tb_words.specs.Circles.{NoneLeadsBack, circle_to, steps_from}
 
 pub one_step_more : (heads : List ℕ) (word n here : ℕ) (old new : List ℕ) → here ≡ steps_from heads (suc n) word

@@ -1,5 +1,5 @@
 -- The words that `split_whitespace` gives.
-use Rattle.std.proofs.Common.{◌≡◌, ℕ, List, [], ◌∷◌, Bor, None, Some, map, subst, sym}
+use Rattle.std.proofs.Common.{ℕ, List, [], ◌∷◌, Bor, None, map, subst, sym}
 use Rattle.std.specs.Char.{is_not_whitespace}
 use Rattle.std.specs.Iterator.{Yields}
 use Rattle.std.specs.Str.{NoCharPasses}

@@ -1,5 +1,5 @@
 -- Names of features in order: where each is not after the next, none comes twice before a later one.
-use Rattle.std.proofs.Common.{◌≡◌, ℕ, zero, suc, ◌+◌, ◌-◌, ◌<◌, ◌≤◌, List, [], ◌∷◌, length, take, get_or, Bool, true, false, not, ◌&&◌, ◌||◌, ◌==◌, nat_lt, refl, sym, ◌∙◌, ap, arith, subst, inl, inr, bytes_eq, cond, Option, Some, None}
+use Rattle.std.proofs.Common.{◌≡◌, ℕ, zero, suc, ◌+◌, ◌-◌, ◌<◌, ◌≤◌, List, [], ◌∷◌, length, take, Bool, true, false, not, ◌&&◌, ◌||◌, ◌==◌, nat_lt, refl, sym, ◌∙◌, ap, arith, subst, inl, inr, cond, Option, Some, None}
 use Rattle.std.specs.Char.{to_ascii_lowercase}
 use Rattle.std.specs.List.{list_any}
 use Rattle.std.proofs.lemmas.Bool.{cases_Bool, ne_eqb, true≢false}
@@ -10,7 +10,7 @@ use Rattle.std.proofs.lemmas.Slice.Eq.{bytes_eq-Decides}
 use Rattle.tb_fields.proofs.Ascents.{not_after_by}
 use Rattle.tb_fields.specs.Feats.{feature_name, is_not_after}
 use Rattle.tb_fields.specs.Rising.{is_below}
-use Rattle.tb_words.specs.FeatureFaults.{AreRight, beside_sentence, feature_at, feature_sentence, features_of, first_said, item_sentence, order_sentence, shares_name}
+use Rattle.tb_words.specs.FeatureFaults.{AreRight, beside_sentence, feature_at, feature_sentence, features_of, first_said, order_sentence, shares_name}
 use Rattle.tb_words.specs.declared.sentences.TheConstants.{FEATURE_ORDER, FEATURE_TWICE}
 
 -- ---- the order

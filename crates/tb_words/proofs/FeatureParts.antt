@@ -1,5 +1,5 @@
 -- A feature that is made of a name or of a value, and the parts of a list of features.
-use Rattle.std.proofs.Common.{◌≡◌, ℕ, zero, suc, ◌+◌, ◌<◌, List, [], ◌∷◌, ◌++◌, length, take, drop, get_or, Bool, true, false, not, ◌&&◌, ◌||◌, cond, refl, sym, ◌∙◌, ap, arith, subst, below_more, bytes_eq, codes, Option, Some, None}
+use Rattle.std.proofs.Common.{◌≡◌, ℕ, zero, suc, ◌+◌, ◌<◌, List, [], ◌∷◌, ◌++◌, length, take, drop, get_or, Bool, true, false, not, cond, refl, sym, ◌∙◌, ap, arith, subst, below_more, codes, Option, Some, None}
 use Rattle.std.specs.List.{after_first, before_first, enumerate_from, list_any, onto_first, position_or_len, slice_split}
 use Rattle.std.proofs.lemmas.Bool.{or_from, or_parts}
 use Rattle.std.proofs.lemmas.List.Folds.{list_any-append}
@@ -9,7 +9,7 @@ use Rattle.std.proofs.Math.Seq.{take-append_seam}
 use Rattle.tb_fields.proofs.Parts.{and_true, are_features-one, are_values-one}
 use Rattle.tb_fields.proofs.Places.{slice_split-whole}
 use Rattle.tb_fields.specs.Blank.{is_blank}
-use Rattle.tb_fields.specs.Feats.{are_features, are_values, is_bar, is_comma, is_equals, is_feature, is_feature_text, is_label, is_name, feature_name}
+use Rattle.tb_fields.specs.Feats.{are_features, is_bar, is_comma, is_equals, is_feature, is_feature_text, is_label, is_name, feature_name}
 use Rattle.tb_words.specs.FeatureFaults.{AreRight, beside_sentence, feature_at, feature_sentence, first_said, item_sentence, named_sentence}
 use Rattle.tb_words.specs.declared.sentences.TheConstants.{FEATURE_FORM}
 

@@ -1,5 +1,5 @@
 -- Comments with a key, in a walk over some.
-use Rattle.std.proofs.Common.{◌≡◌, ℕ, ◌+◌, ◌<◌, ◌≤◌, List, [], None, ap, below_more, get_or, sym, ◌∙◌}
+use Rattle.std.proofs.Common.{◌≡◌, ℕ, ◌+◌, ◌≤◌, List, [], None, ap, below_more, get_or, sym, ◌∙◌}
 use Rattle.tb_rules.specs.Comments.{value_under}
 use Rattle.tb_words.specs.Keyed.{LacksKey}
 

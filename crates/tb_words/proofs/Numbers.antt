@@ -1,7 +1,7 @@
 -- What `parse` reads of a number of a repetition.
 use Rattle.std.proofs.Common.{◌≡◌, ℕ, ◌-◌, ◌^◌, List, Result, Ok, Err, inl, inr, ◌∙◌}
 use Rattle.std.specs.Result.{result_unwrap_or}
-use Rattle.std.specs.Str.Parse.{ParsesUnsigned, digits_value, without_leading_plus}
+use Rattle.std.specs.Str.Parse.{ParsesUnsigned, without_leading_plus}
 use Rattle.tb_words.specs.QueryNumbers.{IsWritten}
 
 pub written_number : {E : Type 0} (text : List ℕ) (read : Result ℕ E) (n : ℕ) → ParsesUnsigned 32 10 text read

@@ -1,11 +1,10 @@
 -- A text cut at a place, and the end of its first word.
-use Rattle.std.proofs.Common.{◌≡◌, ℕ, zero, suc, ◌+◌, ◌-◌, ◌<◌, ◌≤◌, List, [], ◌∷◌, Option, Some, None, Bool, true, false}
-use Rattle.std.proofs.Common.{take, drop, length, get_or, not, ◌||◌, ◌==◌, refl, sym, ◌∙◌, ap, subst, arith, cond, nat_lt, Bor, unwrap_or}
+use Rattle.std.proofs.Common.{◌≡◌, ℕ, zero, suc, ◌-◌, ◌<◌, ◌≤◌, List, [], Option, Some, None, false}
+use Rattle.std.proofs.Common.{take, drop, length, sym, ◌∙◌, ap, subst, arith, cond, nat_lt, Bor, unwrap_or}
 use Rattle.std.proofs.lemmas.Bool.Decides.{nat_tests}
 use Rattle.std.proofs.lemmas.List.{drop_all, length-take-le, take_all, take_rest}
 use Rattle.std.proofs.lemmas.List.Sums.{fails_before_first}
 use Rattle.std.proofs.lemmas.Str.{IsCharBoundary-after_ascii, IsCharBoundary-end, IsCharBoundary-start}
-use Rattle.std.specs.Char.{is_ascii_alphanumeric}
 use Rattle.std.specs.List.{position, position_or_len}
 use Rattle.std.specs.Str.{IsCharBoundary, IsUtf8}
 use Rattle.std.specs.Str.Pattern.{GetsRange}

@@ -1,8 +1,12 @@
 -- One line further in a file, and one sentence further.
 use Rattle.std.proofs.Common.{◌≡◌, ℕ, zero, suc, ◌+◌, ◌-◌, List, [], ◌∷◌, drop, length, option_map, get_or}
-use Rattle.std.proofs.Common.{refl, sym, ◌∙◌, ap, arith, add-one, min}
-use Rattle.tb_conllu.specs.Left.{IsNext, Left}
-use Rattle.tb_conllu.specs.Text.{BlockText}
+use Rattle.std.proofs.Common.{refl, sym, ◌∙◌, ap, arith, add-one, min, length-append, Bool, true, false}
+use Rattle.std.proofs.lemmas.Bool.{true≢false}
+use Rattle.tb_conllu.proofs.Files.{some_text}
+use Rattle.tb_conllu.specs.Left.{BeginsNoSentence, IsNext, Left}
+use Rattle.tb_conllu.specs.Text.{BlockText, text_of}
+use Rattle.tb_conllu.specs.declared.fault.ReadFault.{ReadFault}
+use Rattle.tb_conllu.specs.declared.fault.ReadFault.TheVariants.{At, Memory}
 use Rattle.tb_words.specs.FileLines.{IsAtLine, line_at, lines_in, lines_left}
 use Rattle.tb_words.specs.FileSentences.{AreReadTo}
 use Rattle.tb_words.specs.declared.places.Lines.{Lines}
@@ -51,3 +55,19 @@ lines_kept old count length old_line new_line new most a b c d = omega arith
 pub one_more_read : (count : ℕ) (start mid new : Left) (block : BlockText) → AreReadTo count start mid
     → IsNext mid new block → AreReadTo (count + 1) start new
 one_more_read count start mid new block read next = rw add-one (mid, block, read, next)
+
+-- no sentence begins where no byte is left
+pub none_begins : (bytes : List ℕ) → bytes ≡ [] → BeginsNoSentence bytes
+none_begins bytes empty block rest shaped text =
+    let some = some_text (block ∷ []) (omega arith) in
+    let whole : 0 ≡ length (text_of (block ∷ [])) + length rest = ap (λ (xs : List ℕ). length xs) (sym empty ∙ text)
+    ∙ length-append (text_of (block ∷ [])) rest in
+    omega (arith, some, whole)
+
+abbrev is_want : ReadFault → Bool
+is_want (At line code) = false
+is_want Memory = true
+
+-- a fault at a line is no want of memory
+pub at_line : (fault : ReadFault) (line code : ℕ) → fault ≡ At line code → fault ≡ Memory → ⊥
+at_line fault line code here want = true≢false (ap is_want (sym want) ∙ ap is_want here)

@@ -1,9 +1,9 @@
 -- A text without the spaces at both ends, by what `trim_start_matches` and `trim_end_matches` say.
 use lib.Utf8
-use Rattle.std.proofs.Common.{◌≡◌, ℕ, ◌-◌, List, [], ◌∷◌, ◌++◌, Option, Some, None, IfSome, drop, length, reverse, take, refl, sym, ◌∙◌, ap, arith, lit<}
+use Rattle.std.proofs.Common.{◌≡◌, ℕ, ◌-◌, List, [], ◌∷◌, ◌++◌, Option, Some, None, IfSome, drop, length, reverse, take, sym, ◌∙◌, ap, arith, lit<}
 use Rattle.std.proofs.lemmas.List.{drop_all, reverse-append, take-append-drop}
 use Rattle.std.proofs.lemmas.Str.Pattern.{drop_at_char}
-use Rattle.std.specs.Str.Pattern.{CutsPrefixes, CutsSuffixes, FindsCharPrefix, FindsCharSuffix, IsFullyTrimmed, IsTrimEndMatches, IsTrimStartMatches}
+use Rattle.std.specs.Str.Pattern.{CutsPrefixes, CutsSuffixes, FindsCharPrefix, FindsCharSuffix, IsTrimEndMatches, IsTrimStartMatches}
 use Rattle.tb_rules.proofs.Trims.{no_space_at_end, no_space_in_front}
 use Rattle.tb_rules.specs.Comments.{drop_spaces, trimmed}
 

@@ -1,10 +1,10 @@
 -- One field more in a walk over the fields of a line, and a comment without its hash.
-use Rattle.std.proofs.Common.{◌≡◌, ℕ, ◌+◌, ◌<◌, List, [], ◌∷◌, ◌++◌, Option, Some, None, drop, length, refl, sym, ◌∙◌, ap, arith, below_more, get_or}
+use Rattle.std.proofs.Common.{◌≡◌, ℕ, ◌+◌, ◌<◌, List, [], ◌∷◌, Option, Some, None, drop, length, refl, sym, ◌∙◌, ap, arith, below_more, get_or}
 use Rattle.std.proofs.Common.{Bor, eqb, if◌then◌else◌, slice_index, subst, unwrap_or, MatchOption, ◌==◌}
 use Rattle.std.proofs.Common.{Bool, IsTrue, chars, false, true, ◌↔◌}
 use Rattle.unicode_normalization.specs.Forms.{IsInForm, Nfc}
 use Rattle.std.proofs.lemmas.Bool.{cond-false, ne_eqb, true≢false}
-use Rattle.std.proofs.lemmas.List.{get_or_default, length_push}
+use Rattle.std.proofs.lemmas.List.{get_or_default}
 use Rattle.std.proofs.lemmas.List.FromFn.{get_or-enumerate_from, length-enumerate_from}
 use Rattle.std.specs.List.{enumerate_from}
 use Rattle.tb_conllu.specs.Lines.{field, fields}

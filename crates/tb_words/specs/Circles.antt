@@ -1,4 +1,4 @@
--- Inner: no contract beyond this crate cites a definition of this module.
+-- Between crates: no contract of a front door cites a definition of this module.
 -- Words that hang from one another: steps along HEAD that do not end at 0.
 use Rattle.std.specs.Prelude.{◌≡◌, ◌≢◌, ◌++◌, ◌<◌, ◌⊎◌, ℕ, zero, suc, ◌-◌, ◌==◌, List, length, map, filter, true}
 use Rattle.std.specs.Prelude.{codes, decimal, if◌then◌else◌, IsSomeAnd, None, Option, Some}

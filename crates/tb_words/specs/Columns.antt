@@ -1,4 +1,4 @@
--- Inner: no contract beyond this crate cites a definition of this module.
+-- Between crates: no contract of a front door cites a definition of this module.
 -- The ten columns of a row, and what is shown of one.
 -- CoNLL-U format page: a word line has the fields ID, FORM, LEMMA, UPOS, XPOS, FEATS, HEAD, DEPREL, DEPS and MISC.
 use Rattle.std.specs.Prelude.{ℕ, List, [], Option, Some, None, codes, is_none, ◌==◌, if◌then◌else◌, not}

@@ -16,6 +16,7 @@ use Rattle.tb_query.specs.declared.fault.QueryFault.{QueryFault}
 use Rattle.tb_query.specs.declared.fault.QueryFault.TheVariants as fault
 use Rattle.tb_words.specs.QueryGuesses.{guess}
 use Rattle.tb_words.specs.QueryWords.{character_number}
+use Rattle.tb_words.specs.Shown.{excerpt}
 use Rattle.tb_words.specs.declared.syntax.Wrong.{Wrong}
 use Rattle.tb_words.specs.declared.refusals.Asked.{Asked}
 use Rattle.tb_words.specs.declared.refusals.Asked.TheVariants as asked
@@ -75,6 +76,11 @@ abbrev pub missing_sentence : Asked → List ℕ
 missing_sentence (asked.SentId sent_id) = NO_SUCH_SENT_ID.now
 missing_sentence _ = NO_SUCH_SENTENCE.now
 
+-- its sent_id stands before it, where it was asked for so
+abbrev pub SaysMissing : Asked → Words → Type 0
+SaysMissing (asked.SentId sent_id) words = BeginWith words (codes "<sent_id> " ++ excerpt sent_id.now)
+SaysMissing _ words = words.place ≡ None
+
 -- what each refusal says where nothing else is known
 abbrev pub refusal_sentence : Refusal → List ℕ
 refusal_sentence refusal.BadName = BAD_NAME.now
@@ -109,6 +115,14 @@ IsNumbered fault.TooDeep code at = code ≡ 4
 IsNumbered fault.Repeat code at = code ≡ 5
 IsNumbered (fault.Pattern number) code at = (code ≡ 6) × (number ≡ at)
 IsNumbered fault.Memory code at = ⊥
+
+-- a query, and how many hits it finds
+abbrev pub hits_place : (text : List ℕ) → (hits : ℕ) → List ℕ
+hits_place text hits = codes "`" ++ excerpt text ++ codes "` finds " ++ decimal hits
+
+-- a form
+abbrev pub form_place : (form : List ℕ) → List ℕ
+form_place form = codes "`" ++ excerpt form ++ codes "`"
 
 -- the character of a query that begins at a byte
 abbrev pub query_place : (text : List ℕ) → (at : ℕ) → List ℕ
@@ -148,7 +162,7 @@ SaysOfRefusal (refusal.WrongState state) asked words = Say words (state_sentence
     × BeginWith words (state_place asked state)
 SaysOfRefusal (refusal.Stale current) asked words = Say words STALE.now None
     × BeginWith words (stale_place (base_of asked) current)
-SaysOfRefusal refusal.NoSuchSentence asked words = Say words (missing_sentence asked) None
+SaysOfRefusal refusal.NoSuchSentence asked words = Say words (missing_sentence asked) None × SaysMissing asked words
 SaysOfRefusal (refusal.SentIdTaken sentence) asked words = Say words SENT_ID_TAKEN.now None
     × BeginWith words (codes "sentence " ++ decimal sentence ++ codes " of the input")
 SaysOfRefusal other asked words = Say words (refusal_sentence other) None × (words.place ≡ None)

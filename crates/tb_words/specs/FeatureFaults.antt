@@ -1,4 +1,4 @@
--- Inner: no contract beyond this crate cites a definition of this module.
+-- Between crates: no contract of a front door cites a definition of this module.
 -- What is said of the features of a row: the first that is at fault, and why.
 -- CoNLL-U format page, "Morphological Annotation", and UD v2 guidelines, "Morphology: General Principles".
 use Rattle.std.specs.Prelude.{◌≡◌, ◌<◌, ◌-◌, ◌⊎◌, ◌==◌, ℕ, List, [], Option, Some, None, Bool, bytes_eq, if◌then◌else◌}

@@ -1,4 +1,4 @@
--- Inner: no contract beyond this crate cites a definition of this module.
+-- Between crates: no contract of a front door cites a definition of this module.
 -- The lines of a file by their numbers, and a reader of them.
 use Rattle.std.specs.Prelude.{◌≡◌, ℕ, ◌-◌, List, [], ◌∷◌, Option, Some, None, Bool, ◌==◌, drop, option_map}
 use Rattle.std.specs.Prelude.{slice_index_or}

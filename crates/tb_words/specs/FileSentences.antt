@@ -1,7 +1,7 @@
--- Inner: no contract beyond this crate cites a definition of this module.
+-- Between crates: no contract of a front door cites a definition of this module.
 -- The sentences of a file one after another, and the lines at which each is.
-use Rattle.std.specs.Prelude.{◌≡◌, ℕ, zero, suc, ◌+◌, ◌-◌, ◌^◌, List, length, min, Option, Some, None, position}
-use Rattle.tb_conllu.specs.Left.{IsNext, Left}
+use Rattle.std.specs.Prelude.{◌≡◌, ℕ, zero, suc, ◌+◌, ◌-◌, ◌<◌, ◌^◌, List, length, min, Option, Some, None, position}
+use Rattle.tb_conllu.specs.Left.{BeginsNoSentence, IsNext, Left}
 use Rattle.tb_conllu.specs.Text.{BlockText, RowText}
 use Rattle.tb_rules.specs.Named.{is_word_numbered}
 use Rattle.tb_words.specs.declared.places.Placed.{Placed}
@@ -58,3 +58,17 @@ pub record IsSentenceAfter (file : List ℕ) (count : ℕ) (placed : Placed) : T
   pub read : AreReadTo count (start_of file) start
   pub next : IsNext start rest placed.block
   pub lines : placed.before ≡ kept start.line
+
+-- No sentence comes next, and the reader stays where it is.
+pub record IsAtEnd (old new : Places) : Type 0 where
+  pub stays : new.unread ≡ old.unread
+  pub counted : new.before ≡ old.before
+  pub ended : BeginsNoSentence old.unread.rest
+
+-- The file has no sentence with this number, counted from 1: before it comes what is none.
+pub record IsMissing (file : List ℕ) (number : ℕ) : Type 0 where
+  pub count : ℕ
+  pub few : count < number
+  pub left : Left
+  pub read : AreReadTo count (start_of file) left
+  pub ended : BeginsNoSentence left.rest

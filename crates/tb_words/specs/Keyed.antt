@@ -1,4 +1,4 @@
--- Inner: no contract beyond this crate cites a definition of this module.
+-- Between crates: no contract of a front door cites a definition of this module.
 -- Which comment of a sentence is told, and which row out of order.
 -- CoNLL-U format page, "Sentence Boundaries and Comments" and "Words, Tokens and Empty Nodes".
 use Rattle.std.specs.Prelude.{◌≡◌, ℕ, ◌+◌, ◌-◌, ◌^◌, ◌<◌, ◌≤◌, ◌⊎◌, List, [], length, min, take, Option, Some, None}

@@ -17,3 +17,5 @@ pub mod RowFaults
 pub mod Shown
 pub mod Spelled
 pub mod Told
+pub mod Walks
+pub mod WordsShown

@@ -1,12 +1,12 @@
--- Inner: no contract beyond this crate cites a definition of this module.
+-- Between crates: no contract of a front door cites a definition of this module.
 -- What is said of a line that cannot be read: each sentence with what makes it true.
 -- CoNLL-U format page: a file is UTF-8, and a word line has ten fields with one tab between two of them.
-use Rattle.std.specs.Prelude.{◌≡◌, ◌≢◌, ℕ, ◌+◌, ◌-◌, ◌<◌, ◌≤◌, ◌⊎◌, List, [], ◌∷◌, ◌++◌, length, Option}
+use Rattle.std.specs.Prelude.{◌≡◌, ◌≢◌, ℕ, ◌+◌, ◌-◌, ◌^◌, ◌<◌, ◌⊎◌, List, [], ◌∷◌, ◌++◌, length, Option}
 use Rattle.std.specs.Prelude.{Bool, true, false, ◌&&◌, ◌||◌, not, nat_le, nat_lt, ◌==◌, IfSome, IsSomeAnd, MatchOption, chars}
 use Rattle.std.specs.Prelude.{codes, drop, eqb, if◌then◌else◌, None, position, slice_index, Some, unwrap_or}
 use Rattle.std.specs.List.{after_first, before_first, list_all, list_any, position_or_len, starts_with}
 use Rattle.std.specs.Char.{is_not_whitespace, is_whitespace}
-use Rattle.std.specs.Str.{EmptyOrStartsWithPassing, NoCharPasses, trim, trim_start}
+use Rattle.std.specs.Str.{EmptyOrStartsWithPassing, IsUtf8, NoCharPasses, trim, trim_start}
 use Rattle.std.specs.Str.Iter.{HasSubslice}
 use Rattle.std.specs.Str.Lossy.{utf8_valid_len}
 use Rattle.tb_chars.specs.Digits.{is_digit}
@@ -19,9 +19,9 @@ use Rattle.tb_words.specs.declared.findings.Finding.{Finding}
 use Rattle.tb_words.specs.declared.sentences.TheConstants.{BLANK_AFTER_COMMENTS, BLANK_FIRST, BLANK_MISSING, BLANK_TWICE}
 use Rattle.tb_words.specs.declared.sentences.TheConstants.{BYTE_ORDER_MARK, CARRIAGE_RETURN, COMMENTS_AT_END}
 use Rattle.tb_words.specs.declared.sentences.TheConstants.{COMMENT_INDENTED, COMMENT_PLACE, CONTROL, DOUBLE_TAB, EMPTY_FIELD}
-use Rattle.tb_words.specs.declared.sentences.TheConstants.{FEW_FIELDS, ID_FORM, ID_LONG, ID_ZERO, LONE_RETURNS}
+use Rattle.tb_words.specs.declared.sentences.TheConstants.{FEW_FIELDS, HEAD_FORM, ID_FORM, ID_LONG, ID_ZERO, LONE_RETURNS}
 use Rattle.tb_words.specs.declared.sentences.TheConstants.{MANY_FIELDS, NOT_UTF8, NO_BLANK_AT_END, NO_LINE_FEED}
-use Rattle.tb_words.specs.declared.sentences.TheConstants.{NOT_NFC, NO_TAB, NUL, SPACES_FOR_TABS, TAB_AT_END, UTF16}
+use Rattle.tb_words.specs.declared.sentences.TheConstants.{NOT_NFC, NO_TAB, NUL, SPACE, SPACES_FOR_TABS, TAB_AT_END, UTF16}
 use Rattle.tb_words.specs.declared.sentences.TheConstants.{WHITE_LINE}
 
 -- ---- code 1
@@ -207,3 +207,40 @@ ending_sentence rest before =
     if list_any (λ b. b == 13) rest then LONE_RETURNS.now else
     if not (length rest == 0) then NO_LINE_FEED.now else
     if starts_with eqb before (35 ∷ []) then COMMENTS_AT_END.now else NO_BLANK_AT_END.now
+
+-- ---- each code
+
+-- what is in a column
+abbrev pub ShowsColumn : (line : List ℕ) → (column : ℕ) → Finding → Type 0
+ShowsColumn line column found =
+    (found.column ≡ Some column) × IsSomeAnd found.value (λ v. value_bytes v ≡ field column line)
+
+-- white space in a field, which is shown
+abbrev pub SaysSpace : (line : List ℕ) → Finding → Type 0
+SaysSpace line found =
+    (found.sentence.now ≡ SPACE.now) × IsFirst (holds_wrong_space line) 10 found.column
+    × IfSome found.column (λ k. IsSomeAnd found.value (λ v. value_bytes v ≡ field k line))
+
+-- a comment out of place, which is shown
+abbrev pub SaysComment : (line : List ℕ) → Finding → Type 0
+SaysComment line found =
+    (found.sentence.now ≡ comment_sentence line) × IsSomeAnd found.value (λ v. value_bytes v ≡ line)
+
+-- what is said of a line that is UTF-8, by its code
+abbrev pub SaysOfText : (line : List ℕ) → (code : ℕ) → Finding → Type 0
+SaysOfText line code found =
+    (code ≡ 2 → SaysForm line found)
+    × (code ≡ 3 → length (chars line) < 2 ^ 64 → SaysControl line found)
+    × (code ≡ 4 → SaysColumns line found)
+    × (code ≡ 5 → (found.sentence.now ≡ id_sentence (field 0 line)) × ShowsColumn line 0 found)
+    × (code ≡ 6 → SaysSpace line found)
+    × (code ≡ 7 → (found.sentence.now ≡ HEAD_FORM.now) × ShowsColumn line 6 found)
+    × (code ≡ 8 → SaysComment line found)
+
+-- what is said of a line with this number and the line before it, by its code
+abbrev pub SaysOfLine : (number : ℕ) → (line before : List ℕ) → (code : ℕ) → Finding → Type 0
+SaysOfLine number line before code found =
+    (found.line ≡ number) × (code ≡ 1 → SaysEncoding number line found)
+    × (IsUtf8 line → SaysOfText line code found)
+    × (code ≡ 9 → found.sentence.now ≡ blank_sentence number before)
+    × (code ≡ 10 → found.sentence.now ≡ ending_sentence line before)

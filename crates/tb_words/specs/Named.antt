@@ -1,4 +1,4 @@
--- Inner: no contract beyond this crate cites a definition of this module.
+-- Between crates: no contract of a front door cites a definition of this module.
 -- The first sentence of a file that has a name.
 -- CoNLL-U format page, "Sentence Boundaries and Comments": a sent_id is unique in its file.
 use Rattle.std.specs.Prelude.{◌≡◌, ℕ, ◌-◌, ◌<◌, List, Bool, false, true, bytes_eq, Option, Some, None}

@@ -1,8 +1,8 @@
--- Inner: no contract beyond this crate cites a definition of this module.
+-- Between crates: no contract of a front door cites a definition of this module.
 -- What is said of the pairs in DEPS: the first that is at fault, and why.
 -- CoNLL-U format page, "Syntactic Annotation": pairs `head:relation` joined by bars, in the order of their heads.
-use Rattle.std.specs.Prelude.{◌≡◌, ◌≢◌, ◌+◌, ◌<◌, ◌≤◌, ◌^◌, ◌⊎◌, ℕ, List, [], ◌∷◌, Option, Some, None, true, false}
-use Rattle.std.specs.Prelude.{codes, count_by, IfSome, IsSomeAnd, length, slice_index, slice_index_or, take}
+use Rattle.std.specs.Prelude.{◌≡◌, ◌≢◌, ◌+◌, ◌<◌, ◌≤◌, ◌^◌, ◌⊎◌, ℕ, List, [], ◌∷◌, true, false}
+use Rattle.std.specs.Prelude.{codes, count_by, IsSomeAnd, length, slice_index, slice_index_or, take}
 use Rattle.std.specs.List.{after_first, before_first, list_any, slice_get, slice_split}
 use Rattle.tb_conllu.specs.declared.id.LineId.{LineId}
 use Rattle.tb_conllu.specs.declared.id.LineId.TheVariants.{Word, Span, Empty}

@@ -1,4 +1,4 @@
--- Inner: no contract beyond this crate cites a definition of this module.
+-- Between crates: no contract of a front door cites a definition of this module.
 -- What is said of a sentence that breaks a rule: each sentence with what makes it true.
 -- CoNLL-U format page, "Words, Tokens and Empty Nodes" and "Syntactic Annotation"; UD v2 guidelines.
 use Rattle.std.specs.Prelude.{◌≡◌, ◌≢◌, ℕ, ◌+◌, ◌-◌, ◌^◌, ◌<◌, ◌≤◌, ◌⊎◌, List, drop, length, min, None, Option, option_map, Bool}

@@ -1,20 +1,20 @@
 //! What is wrong with a line that cannot be read.
 
 ghost use Rattle.std.specs.List.{starts_with};
-ghost use Rattle.std.specs.Prelude.{◌≡◌, ◌↔◌, ◌+◌, ◌<◌, ◌^◌, [], ◌∷◌, chars, eqb, IfSome, IsSomeAnd, length, List};
-ghost use Rattle.std.specs.Prelude.{MatchOption, ℕ, option_map, position, slice_get, Some, true};
+ghost use Rattle.std.specs.Prelude.{◌≡◌, ◌↔◌, ◌+◌, ◌<◌, ◌^◌, [], ◌∷◌, chars, eqb, IfSome, length, List};
+ghost use Rattle.std.specs.Prelude.{MatchOption, ℕ, option_map, position, slice_get, true};
 ghost use Rattle.std.specs.Str.{IsUtf8};
 ghost use Rattle.std.specs.Str.Iter.{HasSubslice};
 ghost use Rattle.std.specs.Str.Lossy.{utf8_valid_len};
 ghost use Rattle.tb_conllu.specs.Lines.{field as field_at, fields};
-ghost use Rattle.tb_words.specs.Columns.{value_bytes};
 ghost use Rattle.tb_words.specs.LineFaults.{AreWords, begins_sentence, BeginsAsRow, begins_utf16, begins_with_mark};
-ghost use Rattle.tb_words.specs.LineFaults.{blank_sentence, comment_sentence, comment_text, ending_sentence};
+ghost use Rattle.tb_words.specs.LineFaults.{blank_sentence, comment_text, ending_sentence};
 ghost use Rattle.tb_words.specs.LineFaults.{has_last_tab, holds_wrong_space, id_parts, id_sentence, IsFirst};
 ghost use Rattle.tb_words.specs.LineFaults.{is_control_code, IsFirstEmpty, IsFirstUncomposed, number_sentence};
 ghost use Rattle.tb_words.specs.LineFaults.{SaysBeginning, SaysColumns, SaysControl, SaysControlAt, SaysCount};
-ghost use Rattle.tb_words.specs.LineFaults.{SaysEncoding, SaysForm, SaysMore, SaysTabless};
-ghost use Rattle.tb_words.specs.declared.sentences.TheConstants.{HEAD_FORM, SPACE};
+ghost use Rattle.tb_words.specs.LineFaults.{SaysComment, SaysEncoding, SaysForm, SaysMore, SaysSpace, SaysTabless};
+ghost use Rattle.tb_words.specs.LineFaults.{ShowsColumn};
+ghost use Rattle.tb_words.specs.declared.sentences.TheConstants.{HEAD_FORM};
 
 use crate::columns::{FORM, HEAD, ID, LEMMA, MISC, field};
 use crate::findings::{Detail, Finding, Value};
@@ -294,9 +294,8 @@ fn id_fault(value: &str) -> &'static str
 
 fn id<'a>(number: usize, line: &'a str) -> Finding<'a>
     ensures line { result.line ≡ number }
-    ensures column { result.column ≡ Some 0 }
-    ensures value { IsSomeAnd result.value (λ v. value_bytes v ≡ field_at 0 line.now) }
     ensures said { result.sentence.now ≡ id_sentence (field_at 0 line.now) }
+    ensures shown { ShowsColumn line.now 0 result }
 {
     let value = field(line, ID);
     Finding::on(number, id_fault(value))
@@ -325,9 +324,7 @@ fn spaced_column(line: &str) -> Option<usize>
 
 fn space<'a>(number: usize, line: &'a str) -> Finding<'a>
     ensures line { result.line ≡ number }
-    ensures column { IsFirst (holds_wrong_space line.now) 10 result.column }
-    ensures value { IfSome result.column (λ k. IsSomeAnd result.value (λ v. value_bytes v ≡ field_at k line.now)) }
-    ensures said { result.sentence.now ≡ SPACE.now }
+    ensures said { SaysSpace line.now result }
 {
     let found = Finding::on(number, reported::SPACE);
     match spaced_column(line) {
@@ -340,9 +337,8 @@ fn space<'a>(number: usize, line: &'a str) -> Finding<'a>
 
 fn head<'a>(number: usize, line: &'a str) -> Finding<'a>
     ensures line { result.line ≡ number }
-    ensures column { result.column ≡ Some 6 }
-    ensures value { IsSomeAnd result.value (λ v. value_bytes v ≡ field_at 6 line.now) }
     ensures said { result.sentence.now ≡ HEAD_FORM.now }
+    ensures shown { ShowsColumn line.now 6 result }
 {
     Finding::on(number, reported::HEAD_FORM)
         .in_column(HEAD)
@@ -375,8 +371,7 @@ fn begins_sentence(comment: &str) -> bool
 
 fn comment_place<'a>(number: usize, line: &'a str) -> Finding<'a>
     ensures line { result.line ≡ number }
-    ensures value { IsSomeAnd result.value (λ v. value_bytes v ≡ line.now) }
-    ensures said { result.sentence.now ≡ comment_sentence line.now }
+    ensures said { SaysComment line.now result }
 {
     let sentence = if begins_sentence(line) {
         reported::BLANK_MISSING
@@ -419,14 +414,15 @@ pub(crate) fn fault_of_line<'a>(alloc: Global, line: &NumberedLine<'a>, code: u8
     ensures encoding { code ≡ 1 → SaysEncoding line.now.number line.now.bytes.now result }
     ensures form { code ≡ 2 → IsUtf8 line.now.bytes.now → SaysForm line.now.bytes.now result }
     ensures columns { code ≡ 4 → IsUtf8 line.now.bytes.now → SaysColumns line.now.bytes.now result }
-    ensures id { code ≡ 5 → result.column ≡ Some 0 }
-    ensures id_said { code ≡ 5 → IsUtf8 line.now.bytes.now
-        → result.sentence.now ≡ id_sentence (field_at 0 line.now.bytes.now) }
-    ensures space { code ≡ 6 → IsUtf8 line.now.bytes.now
-        → IsFirst (holds_wrong_space line.now.bytes.now) 10 result.column }
-    ensures head { code ≡ 7 → result.column ≡ Some 6 }
-    ensures comment { code ≡ 8 → IsUtf8 line.now.bytes.now
-        → result.sentence.now ≡ comment_sentence line.now.bytes.now }
+    ensures control { code ≡ 3 → IsUtf8 line.now.bytes.now → length (chars line.now.bytes.now) < 2 ^ 64
+        → SaysControl line.now.bytes.now result }
+    ensures id { code ≡ 5 → IsUtf8 line.now.bytes.now
+        → (result.sentence.now ≡ id_sentence (field_at 0 line.now.bytes.now))
+        × ShowsColumn line.now.bytes.now 0 result }
+    ensures space { code ≡ 6 → IsUtf8 line.now.bytes.now → SaysSpace line.now.bytes.now result }
+    ensures head { code ≡ 7 → IsUtf8 line.now.bytes.now
+        → (result.sentence.now ≡ HEAD_FORM.now) × ShowsColumn line.now.bytes.now 6 result }
+    ensures comment { code ≡ 8 → IsUtf8 line.now.bytes.now → SaysComment line.now.bytes.now result }
     ensures blank { code ≡ 9 → result.sentence.now ≡ blank_sentence line.now.number line.now.before.now }
     ensures end { code ≡ 10
         → result.sentence.now ≡ ending_sentence line.now.bytes.now line.now.before.now }

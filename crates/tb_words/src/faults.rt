@@ -2,6 +2,7 @@
 
 ghost use Rattle.std.specs.Prelude.{◌≡◌, ◌<◌, IfErr, IfOk, length, take};
 ghost use Rattle.tb_words.specs.FirstFaults.{AreFirstFaults, IsFaultList, are_more, exit_with};
+ghost use Rattle.tb_words.specs.Told.{IsToldList};
 
 use crate::telling::tell_faults;
 use std::alloc::{AllocError, Global};
@@ -63,13 +64,10 @@ fn first_faults(alloc: Global, file: &[u8], most: u32) -> Result<FirstFaults, Al
     })
 }
 
-/// Lists the first faults of a file, at most so many.
-///
-/// # Errors
-///
-/// No memory is left.
-pub fn list_faults(alloc: Global, file: &[u8], most: u32) -> Result<FaultList, AllocError>
-    ensures { IfOk result (λ list. IsFaultList file.now most list.text.items list.status) }
+/// Lists the first faults of a file, at most so many, and tells each.
+fn told_list(alloc: Global, file: &[u8], most: u32) -> Result<FaultList, AllocError>
+    ensures list { IfOk result (λ list. IsFaultList file.now most list.text.items list.status) }
+    ensures told { IfOk result (λ list. IsToldList file.now most list.text.items) }
 {
     let first = first_faults(alloc, file, most)?;
     let told = tell_faults(alloc, file, first.faults.as_slice())?;
@@ -78,4 +76,15 @@ pub fn list_faults(alloc: Global, file: &[u8], most: u32) -> Result<FaultList, A
         text,
         status: first.status,
     })
+}
+
+/// Lists the first faults of a file, at most so many.
+///
+/// # Errors
+///
+/// No memory is left.
+pub fn list_faults(alloc: Global, file: &[u8], most: u32) -> Result<FaultList, AllocError>
+    ensures { IfOk result (λ list. IsFaultList file.now most list.text.items list.status) }
+{
+    told_list(alloc, file, most)
 }

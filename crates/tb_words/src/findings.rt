@@ -1,8 +1,14 @@
 //! What is wrong at a place of a file.
 
-ghost use Rattle.std.specs.Prelude.{◌≡◌, [], IfOk, None, Some, string_bytes};
+ghost use Rattle.std.specs.Fmt.{WritesOnOk};
+ghost use Rattle.std.specs.Prelude.{◌≡◌, IfOk, None, option_map, Some, string_bytes};
 ghost use Rattle.tb_words.specs.Columns.{column_shown};
+ghost use Rattle.tb_words.specs.Explained.{BeginWith};
+ghost use Rattle.tb_words.specs.Shown.{field_text, finding_text, is_bare, is_in_line, is_wanted, message_text};
+ghost use Rattle.tb_words.specs.Shown.{rest_text, row_text, value_shown};
+ghost use Rattle.tb_words.specs.Told.{IsShownAs};
 ghost use Rattle.tb_words.specs.declared.findings.Detail.TheVariants.{Nothing};
+ghost use Rattle.tb_words.specs.declared.findings.Value.TheVariants.{Id};
 
 use crate::columns::name;
 use crate::words::{Words, named, shown};
@@ -21,9 +27,9 @@ pub(crate) enum Value<'a> {
 }
 
 impl Display for Value<'_> {
-    ghost use Rattle.tb_words.specs.Shown.{value_output};
+    ghost use Rattle.tb_words.specs.Shown.{value_text};
 
-    ghost output = { value_output };
+    ghost output = { λ value. Some (value_text value) };
 
     fn fmt<W: fmt::Write>(&self, f: &mut Formatter<W>) -> fmt::Result {
         match self {
@@ -37,9 +43,29 @@ impl Display for Value<'_> {
     }
 }
 
+/// The ID of a row as a value.
+fn id_value<'a>(id: Option<LineId>) -> Option<Value<'a>>
+    ensures { result ≡ option_map (λ i. Id i) id }
+{
+    match id {
+        Some(id) => Some(Value::Id(id)),
+        None => None,
+    }
+}
+
+/// The name of a column; empty where none is named.
+fn column_text(column: Option<usize>) -> &'static str
+    ensures { result.now ≡ column_shown column }
+{
+    match column {
+        Some(column) => name(column),
+        None => "",
+    }
+}
+
 /// What is at a place, as a text; empty where nothing is said of it.
 fn text_of(alloc: Global, value: Option<Value<'_>>) -> Result<String, AllocError>
-    ensures { value.entry ≡ None → IfOk result (λ text. string_bytes text ≡ []) }
+    ensures { IfOk result (λ text. string_bytes text ≡ value_shown value.entry) }
 {
     match value {
         Some(value) => format!(in alloc; "{value}"),
@@ -76,9 +102,9 @@ pub(crate) enum Detail {
 }
 
 impl Display for Detail {
-    ghost use Rattle.tb_words.specs.Shown.{detail_output};
+    ghost use Rattle.tb_words.specs.Shown.{detail_text};
 
-    ghost output = { detail_output };
+    ghost output = { λ detail. Some (detail_text detail) };
 
     fn fmt<W: fmt::Write>(&self, f: &mut Formatter<W>) -> fmt::Result {
         match self {
@@ -113,7 +139,9 @@ pub(crate) struct Finding<'a> {
 
 impl Finding<'_> {
     /// Writes the line, or both, and the row where the detail does not name it.
-    fn put_row<W: fmt::Write>(&self, f: &mut Formatter<W>) -> fmt::Result {
+    fn put_row<W: fmt::Write>(&self, f: &mut Formatter<W>) -> fmt::Result
+        ensures { WritesOnOk W.write_str_gives f.old result (row_text self.now.line self.now.id self.now.detail) f.new }
+    {
         match (&self.detail, self.id) {
             (Detail::Again(second), _) => write!(f, "lines {} and {second}", self.line),
             (Detail::Circle(_), _) | (_, None) => write!(f, "line {}", self.line),
@@ -122,7 +150,9 @@ impl Finding<'_> {
     }
 
     /// Writes the column and the value.
-    fn put_value<W: fmt::Write>(&self, f: &mut Formatter<W>) -> fmt::Result {
+    fn put_value<W: fmt::Write>(&self, f: &mut Formatter<W>) -> fmt::Result
+        ensures { WritesOnOk W.write_str_gives f.old result (field_text self.now.column self.now.value) f.new }
+    {
         match (self.column, self.value) {
             (Some(column), Some(value)) => write!(f, ", {} `{value}`", name(column)),
             (Some(column), None) => write!(f, ", {}", name(column)),
@@ -132,15 +162,48 @@ impl Finding<'_> {
     }
 }
 
+fn is_bare(detail: &Detail) -> bool
+    ensures { result ≡ is_bare detail.now }
+{
+    matches!(detail, Detail::Nothing)
+}
+
+/// Whether there is no detail, or the line has it.
+fn is_in_line(detail: &Detail) -> bool
+    ensures { result ≡ is_in_line detail.now }
+{
+    matches!(detail, Detail::Nothing | Detail::Again(_))
+}
+
+/// Whether the detail says what has to stand there.
+fn is_wanted(detail: &Detail) -> bool
+    ensures { result ≡ is_wanted detail.now }
+{
+    matches!(detail, Detail::Instead(_))
+}
+
+/// Writes what there is to say beside the line.
+fn put_detail<W: fmt::Write>(detail: &Detail, f: &mut Formatter<W>) -> fmt::Result
+    ensures { WritesOnOk W.write_str_gives f.old result (rest_text detail.now) f.new }
+{
+    if is_in_line(detail) {
+        Ok(())
+    } else if is_wanted(detail) {
+        write!(f, " {detail}")
+    } else {
+        write!(f, ", {detail}")
+    }
+}
+
 impl Display for Finding<'_> {
+    ghost use Rattle.tb_words.specs.Shown.{finding_text};
+
+    ghost output = { λ found. Some (finding_text found) };
+
     fn fmt<W: fmt::Write>(&self, f: &mut Formatter<W>) -> fmt::Result {
         self.put_row(f)?;
         self.put_value(f)?;
-        match &self.detail {
-            Detail::Nothing | Detail::Again(_) => Ok(()),
-            Detail::Instead(_) => write!(f, " {}", self.detail),
-            detail => write!(f, ", {detail}"),
-        }
+        put_detail(&self.detail, f)
     }
 }
 
@@ -230,43 +293,34 @@ impl<'a> Finding<'a> {
     pub(crate) fn words(&self, alloc: Global) -> Words
         ensures sentence { result.sentence.now ≡ self.now.sentence.now }
         ensures alone { (result.page ≡ None) × (result.picture ≡ None) }
+        ensures place { BeginWith result (finding_text self.now) }
     {
         Words::at(format!(in alloc; "{self}"), self.sentence)
     }
 
     /// What a list says beside the place: the detail, if there is one, and the sentence.
     fn message(&self, alloc: Global) -> Result<String, AllocError>
-        ensures { self.now.detail ≡ Nothing → IfOk result (λ text. string_bytes text ≡ self.now.sentence.now) }
+        ensures { IfOk result (λ text. string_bytes text ≡ message_text self.now.detail self.now.sentence.now) }
     {
         let sentence = self.sentence;
-        match &self.detail {
-            Detail::Nothing => String::from_str(alloc, sentence),
-            detail => format!(in alloc; "{detail}: {sentence}"),
+        let detail = &self.detail;
+        if is_bare(detail) {
+            String::from_str(alloc, sentence)
+        } else {
+            format!(in alloc; "{detail}: {sentence}")
         }
     }
 
     /// A fault of the file, as a list tells it.
     pub(crate) fn told(&self, alloc: Global, fault: Fault) -> Result<FaultRow, AllocError>
         ensures fault { IfOk result (λ told. told.fault ≡ fault) }
-        ensures line { IfOk result (λ told. told.line ≡ self.now.line) }
-        ensures column { IfOk result (λ told. told.column ≡ column_shown self.now.column) }
-        ensures row { self.now.id ≡ None → IfOk result (λ told. told.id ≡ []) }
-        ensures value { self.now.value ≡ None → IfOk result (λ told. told.value ≡ []) }
-        ensures message { self.now.detail ≡ Nothing
-            → IfOk result (λ told. told.message ≡ self.now.sentence.now) }
+        ensures shown { IfOk result (IsShownAs self.now) }
     {
-        let id = match self.id {
-            Some(id) => Some(Value::Id(id)),
-            None => None,
-        };
         Ok(FaultRow {
             fault,
             line: self.line,
-            id: text_of(alloc, id)?,
-            column: match self.column {
-                Some(column) => name(column),
-                None => "",
-            },
+            id: text_of(alloc, id_value(self.id))?,
+            column: column_text(self.column),
             value: text_of(alloc, self.value)?,
             message: self.message(alloc)?,
         })

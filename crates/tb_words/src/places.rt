@@ -1,13 +1,14 @@
 //! Where something is in a file.
 
-ghost use Rattle.std.specs.Prelude.{◌≡◌, ◌+◌, ◌-◌, ◌<◌, ◌^◌, ◌∷◌, IfOk, IfSome, List, drop, length, max, min};
+ghost use Rattle.std.specs.Prelude.{◌≡◌, ◌+◌, ◌-◌, ◌<◌, ◌^◌, ◌∷◌, IfNone, IfOk, IfSome, List, drop, length, max, min};
 ghost use Rattle.std.specs.Prelude.{[], option_map, position, slice_index_or, ℕ};
 ghost use Rattle.std.specs.Str.{IsUtf8};
+ghost use Rattle.tb_conllu.specs.Left.{IsNext};
 ghost use Rattle.tb_conllu.specs.Text.{block_lines};
 ghost use Rattle.tb_words.specs.FileLines.{IsAtLine, is_line_feed, lines_in, lines_left};
 ghost use Rattle.tb_rules.specs.Named.{is_word_numbered};
 ghost use Rattle.tb_words.specs.FileSentences.{HasRead, IsSentenceAfter, comment_line_of, line_of_word, row_line_of};
-ghost use Rattle.tb_words.specs.FileSentences.{row_of_word};
+ghost use Rattle.tb_words.specs.FileSentences.{IsAtEnd, row_of_word};
 
 use std::alloc::{AllocError, Global};
 use tb_conllu::{BlockRef, LineId, ReadFault, RowRef, Sentences};
@@ -212,10 +213,14 @@ impl<'a> Places<'a> {
             → IfOk result (λ next. IfSome next (IsSentenceAfter file count)) }
         ensures left { (file : List ℕ) (count : ℕ) → HasRead file count self.old
             → IfOk result (λ next. IfSome next (λ _. HasRead file (count + 1) self.new)) }
+        ensures next { IfOk result (λ next. IfSome next (λ placed.
+            IsNext self.old.unread self.new.unread placed.block)) }
+        ensures end { IfOk result (λ next. IfNone next (IsAtEnd self.old self.new)) }
     {
         let block = match self.unread.read_next(self.alloc) {
             Ok(Some(block)) => block,
-            Ok(None) | Err(ReadFault::At { .. }) => return Ok(None),
+            Ok(None) => return Ok(None),
+            Err(ReadFault::At { .. }) => return Ok(None),
             Err(ReadFault::Memory) => return Err(AllocError),
         };
         let before = self.before;

@@ -4,7 +4,7 @@ ghost use Rattle.std.specs.Prelude.{◌≡◌, None, Some, option_map};
 ghost use Rattle.std.specs.Str.{IsCharBoundary};
 ghost use Rattle.tb_words.specs.declared.sentences.TheConstants.{LITERALLY, NOTHING_RELEASED, ON_A_RANGE};
 ghost use Rattle.tb_words.specs.QueryNumbers.{IsNumber, SaysBounds, bound_texts, bounds_sentence};
-ghost use Rattle.tb_words.specs.Explained.{BeginWith, Say, SaysOfQuery, SaysSyntax, query_place};
+ghost use Rattle.tb_words.specs.Explained.{BeginWith, Say, SaysOfQuery, SaysSyntax, form_place, hits_place, query_place};
 
 use crate::literals::{Literal, holds, literals, written};
 use crate::pictures::{character, picture};
@@ -145,7 +145,8 @@ pub(crate) fn words_of_query(alloc: Global, text: &str, fault: QueryFault) -> Wo
 
 /// The words for a query that finds nothing, while this text of it finds so many hits.
 pub fn words_of_hits(alloc: Global, text: &str, hits: u64) -> Words
-    ensures { Say result LITERALLY.now (Some Page.Queries) }
+    ensures says { Say result LITERALLY.now (Some Page.Queries) }
+    ensures place { BeginWith result (hits_place text.now hits) }
 {
     let query = shown(text);
     Words::at(
@@ -157,7 +158,8 @@ pub fn words_of_hits(alloc: Global, text: &str, hits: u64) -> Words
 
 /// The words for a form that a query asks for and that only a range has.
 pub fn words_of_range(alloc: Global, form: &str) -> Words
-    ensures { Say result ON_A_RANGE.now (Some Page.Queries) }
+    ensures says { Say result ON_A_RANGE.now (Some Page.Queries) }
+    ensures place { BeginWith result (form_place form.now) }
 {
     let form = shown(form);
     Words::at(format!(in alloc; "`{form}`"), reported::ON_A_RANGE).on(Page::Queries)

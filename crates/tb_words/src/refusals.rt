@@ -3,8 +3,9 @@
 ghost use Rattle.std.specs.Prelude.{◌≡◌, None, IfSome, is_some};
 ghost use Rattle.tb_words.specs.declared.sentences.TheConstants.{STALE};
 ghost use Rattle.tb_words.specs.Explained.{BeginWith, Explains, IsNumbered, Say, SaysOfCode, SaysOfMemory};
-ghost use Rattle.tb_words.specs.Explained.{SaysOfRefusal, base_of, batch_place, is_explained, missing_sentence};
+ghost use Rattle.tb_words.specs.Explained.{SaysMissing, SaysOfRefusal, base_of, batch_place, is_explained, missing_sentence};
 ghost use Rattle.tb_words.specs.Explained.{next_sentence, refusal_sentence, stale_place, state_place, state_sentence};
+ghost use Rattle.tb_words.specs.Explaining.{ExplainsBody};
 
 use crate::queries::words_of_query;
 use crate::sentences as reported;
@@ -127,7 +128,8 @@ fn stale(alloc: Global, base: u64, current: u64) -> Words
 
 /// The words for a sentence that does not exist: it was asked for by its `sent_id`, or by its number.
 fn no_such_sentence(alloc: Global, asked: Asked<'_>) -> Words
-    ensures { Say result (missing_sentence asked.entry) None }
+    ensures says { Say result (missing_sentence asked.entry) None }
+    ensures place { SaysMissing asked.entry result }
 {
     match asked {
         Asked::SentId(sent_id) => {
@@ -199,6 +201,7 @@ fn of_refusal(alloc: Global, refusal: Refusal, asked: Asked<'_>) -> Words
 pub fn words_of_reply(alloc: Global, reply: Reply, body: &[u8], asked: Asked<'_>) -> Option<Words>
     ensures some { is_some result ≡ is_explained reply }
     ensures says { IfSome result (λ words. Explains reply asked.entry words) }
+    ensures body { IfSome result (ExplainsBody reply body.now) }
 {
     match reply {
         Reply::Moved(moved) => Some(words_of_move(alloc, moved.state)),

@@ -19,7 +19,8 @@ ghost use Rattle.tb_words.specs.PairFaults.{SaysDeps};
 ghost use Rattle.tb_words.specs.RowFaults.{SaysHead, SaysHeaded, SaysNode, SaysRange, SaysRangePlace};
 ghost use Rattle.tb_words.specs.RowFaults.{SaysPairOf, SaysRelation, SaysRoots, SaysRow, SaysRowAt, SaysWord, SaysWords};
 ghost use Rattle.tb_words.specs.RowFaults.{IsRangePlaced, SaysName, range_last, reaches, root_after, word_number};
-ghost use Rattle.tb_words.specs.FileSentences.{line_of_word, row_line_of};
+ghost use Rattle.tb_words.specs.FileSentences.{line_of_word};
+ghost use Rattle.tb_words.specs.Spelled.{SaysDifference};
 ghost use Rattle.tb_words.specs.declared.findings.Detail.TheVariants.{Instead};
 ghost use Rattle.tb_words.specs.declared.sentences.TheConstants.{CIRCLE, TEXT_MISSING, TEXT_TWICE};
 
@@ -573,6 +574,7 @@ pub(crate) fn fault_by<'a>(
     ensures rows { 4 ≤ rule → rule ≤ 8 → 1 ≤ row → IfSome result (SaysRowAt placed.now rule (row - 1)) }
     ensures roots { rule ≡ 9 → IfSome result (SaysRoots placed.now) }
     ensures circle { rule ≡ 10 → IfSome result (SaysCircle placed.now) }
+    ensures spelling { rule ≡ 11 → IfSome result (SaysDifference placed.now) }
 {
     match rule {
         1 => sent_id_fault(placed),

@@ -1,9 +1,14 @@
 //! Tells the faults of a file, in one walk over it.
 
-ghost use Rattle.std.specs.Prelude.{◌≡◌, [], IfOk, IfSome, IsOk, Some, map, max};
-ghost use Rattle.tb_words.specs.Explaining.{ExplainsRule, SaysOfRule, SaysSentence};
+ghost use Rattle.std.specs.Prelude.{◌≡◌, ◌+◌, ◌-◌, ◌<◌, ◌^◌, [], ℕ, if◌then◌else◌, IfOk, IfSome, IsOk, List, map};
+ghost use Rattle.std.specs.Prelude.{max, min, OnOk, Some, unwrap_or};
+ghost use Rattle.tb_words.specs.Explaining.{ExplainsLine, ExplainsRule, SaysOfRule, SaysSentence};
+ghost use Rattle.tb_words.specs.FileLines.{IsAtLine};
+ghost use Rattle.tb_words.specs.FileSentences.{comment_line_of};
 ghost use Rattle.tb_words.specs.Named.{IsFirstNamed, SaysFirstTaken, is_named};
-ghost use Rattle.tb_words.specs.Told.{TellsLine};
+ghost use Rattle.tb_words.specs.Told.{AreTold, IsTakenAmong, TellsFault, TellsLineAt, TellsPlaced, TellsSentence};
+ghost use Rattle.tb_words.specs.Told.{line_told, sentence_told};
+ghost use Rattle.tb_words.specs.Walks.{HasWalked, IsWalk, KnowsNames, first_of};
 ghost use Rattle.tb_words.specs.declared.words.Page.TheVariants.{Code, Rule};
 
 use crate::codes::fault_of_line;
@@ -20,12 +25,12 @@ use tb_rules::sent_id_ref;
 
 /// The words for a line that cannot be read: the one with this number, counted from 1, and this code.
 pub(crate) fn words_of_line(alloc: Global, file: &[u8], number: usize, code: u8) -> Words
-    ensures { result.page ≡ Some (Code code) }
+    ensures page { result.page ≡ Some (Code code) }
+    ensures said { ExplainsLine file.now number code result }
 {
     let line = Lines::new(file).read_to(number);
-    fault_of_line(alloc, &line, code)
-        .words(alloc)
-        .on(Page::Code(code))
+    let fault = fault_of_line(alloc, &line, code);
+    fault.words(alloc).on(Page::Code(code))
 }
 
 /// Whether a sentence has this name.
@@ -106,6 +111,80 @@ pub(crate) fn words_of_rule(alloc: Global, file: &[u8], sentence: u64, rule: u8,
     }
 }
 
+/// For each name the first sentence that has it: its number, and its first line.
+// A tree, not a hash table: no file can make its names collide.
+type Names<'a> = BTreeMap<&'a str, (usize, usize)>;
+
+/// Keeps the name of the sentence that has this number, if no earlier one has it.
+fn keep_name<'a>(
+    names: &mut Names<'a>,
+    placed: &Placed<'a>,
+    number: usize,
+) -> Result<(), AllocError>
+    ensures { OnOk result ((name : List ℕ) → first_of names.new name ≡ (if is_named placed.now name
+        then Some (unwrap_or (first_of names.old name) (number, comment_line_of placed.now 0))
+        else first_of names.old name)) }
+{
+    let Some(name) = sent_id_ref(&placed.block) else {
+        return Ok(());
+    };
+    if names.contains_key(name) {
+        return Ok(());
+    }
+    names.insert(name, (number, placed.comment_line(0)))?;
+    Ok(())
+}
+
+/// The first sentence that has a name.
+fn first_named(names: &Names<'_>, name: &str) -> Option<(usize, usize)>
+    ensures { result ≡ first_of names.now name.now }
+{
+    names.get(name).copied()
+}
+
+/// What is wrong with a sentence that has the name of one of these.
+fn taken_among<'a>(names: &Names<'a>, placed: &Placed<'a>) -> Option<Finding<'a>>
+    ensures { IfSome result (IsTakenAmong names.now placed.now) }
+{
+    let name = sent_id_ref(&placed.block)?;
+    let first = first_named(names, name)?;
+    name_taken(placed, first.0 as u64, first.1)
+}
+
+/// What is wrong with a sentence by this rule, where these are the first sentences of each name.
+fn known_fault<'a>(
+    alloc: Global,
+    names: &Names<'a>,
+    placed: &Placed<'a>,
+    rule: u8,
+    row: usize,
+) -> Option<Finding<'a>>
+    ensures { (file : List ℕ) (count : ℕ) → KnowsNames file count names.now
+        → IfSome result (SaysOfRule file placed.now rule row) }
+{
+    if rule == 12 {
+        return taken_among(names, placed);
+    }
+    fault_by(alloc, placed, rule, row)
+}
+
+/// The same, or only that the sentence breaks the rule.
+fn fault_among<'a>(
+    alloc: Global,
+    names: &Names<'a>,
+    placed: &Placed<'a>,
+    rule: u8,
+    row: usize,
+) -> Finding<'a>
+    ensures { (file : List ℕ) (count : ℕ) → KnowsNames file count names.now
+        → TellsPlaced file placed.now rule row result }
+{
+    match known_fault(alloc, names, placed, rule, row) {
+        Some(fault) => fault,
+        None => Finding::on(placed.comment_line(0), reported::BROKEN),
+    }
+}
+
 /// A walk over a file, up to the last fault that was told.
 #[derive(Drop)]
 struct Walk<'a> {
@@ -115,13 +194,14 @@ struct Walk<'a> {
     /// The last sentence that was read, and its number.
     here: Option<Placed<'a>>,
     number: usize,
-    /// For each name the first sentence that has it: its number, and its first line.
-    // A tree, not a hash table: no file can make its names collide.
-    names: BTreeMap<&'a str, (usize, usize)>,
+    names: Names<'a>,
 }
 
 impl<'a> Walk<'a> {
-    fn new(alloc: Global, file: &'a [u8]) -> Walk<'a> {
+    fn new(alloc: Global, file: &'a [u8]) -> Walk<'a>
+        ensures start { (result.lines.here.number ≡ 0) × (result.number ≡ 0) }
+        ensures at { IsWalk file.now result }
+    {
         Walk {
             alloc,
             lines: Lines::new(file),
@@ -132,39 +212,43 @@ impl<'a> Walk<'a> {
         }
     }
 
-    /// Keeps the name of a sentence that no earlier one has.
-    fn keep_name(&mut self, placed: &Placed<'a>) -> Result<(), AllocError> {
-        let Some(name) = sent_id_ref(&placed.block) else {
+    /// Reads the next sentence.
+    fn read_next(&mut self) -> Result<(), AllocError>
+        ensures number { self.new.number ≡ min (self.old.number + 1) (2 ^ 64 - 1) }
+        ensures lines { self.new.lines ≡ self.old.lines }
+        ensures at { (file : List ℕ) → self.old.number + 1 < 2 ^ 64 → HasWalked file self.old
+            → OnOk result (HasWalked file self.new) }
+    {
+        self.number = self.number.saturating_add(1);
+        let Some(placed) = self.places.read_next()? else {
+            self.here = None;
             return Ok(());
         };
-        let here = (self.number, placed.comment_line(0));
-        let _first = self.names.entry(name)?.or_insert(here);
+        keep_name(&mut self.names, &placed, self.number)?;
+        self.here = Some(placed);
         Ok(())
     }
 
-    /// Reads the next sentence.
-    fn read_next(&mut self) -> Result<(), AllocError> {
-        self.number = self.number.saturating_add(1);
-        let placed = self.places.read_next()?;
-        if let Some(placed) = &placed {
-            self.keep_name(placed)?;
+    /// Reads on to the sentence with this number.
+    fn read_to(&mut self, sentence: usize) -> Result<(), AllocError>
+        ensures number { OnOk result (self.new.number ≡ max self.old.number sentence) }
+        ensures lines { self.new.lines ≡ self.old.lines }
+        ensures at { (file : List ℕ) → HasWalked file self.old → OnOk result (HasWalked file self.new) }
+    {
+        while self.number < sentence {
+            self.read_next()?;
         }
-        self.here = placed;
         Ok(())
     }
 
     /// What is wrong with the sentence that was read last, by this rule.
-    fn fault_here(&self, rule: u8, row: usize) -> Option<Finding<'a>> {
-        let placed = self.here.as_ref()?;
-        let found = if rule == 12 {
-            let (earlier, first) = *self.names.get(sent_id_ref(&placed.block)?)?;
-            name_taken(placed, earlier as u64, first)
-        } else {
-            fault_by(self.alloc, placed, rule, row)
-        };
-        match found {
-            Some(fault) => Some(fault),
-            None => Some(Finding::on(placed.comment_line(0), reported::BROKEN)),
+    fn fault_here(&self, rule: u8, row: usize) -> Finding<'a>
+        ensures { (file : List ℕ) → HasWalked file self.now
+            → TellsSentence file self.now.number rule row result }
+    {
+        match &self.here {
+            Some(placed) => fault_among(self.alloc, &self.names, placed, rule, row),
+            None => Finding::on(0, reported::BROKEN),
         }
     }
 
@@ -174,19 +258,24 @@ impl<'a> Walk<'a> {
         sentence: usize,
         rule: u8,
         row: usize,
-    ) -> Result<Finding<'a>, AllocError> {
-        for _ in self.number..sentence {
-            self.read_next()?;
-        }
-        match self.fault_here(rule, row) {
-            Some(fault) => Ok(fault),
-            None => Ok(Finding::on(0, reported::BROKEN)),
-        }
+    ) -> Result<Finding<'a>, AllocError>
+        ensures told { (file : List ℕ) → HasWalked file self.old
+            → IfOk result (TellsSentence file (max self.old.number sentence) rule row) }
+        ensures number { IfOk result (λ _. self.new.number ≡ max self.old.number sentence) }
+        ensures lines { self.new.lines ≡ self.old.lines }
+        ensures at { (file : List ℕ) → HasWalked file self.old → IfOk result (λ _. HasWalked file self.new) }
+    {
+        self.read_to(sentence)?;
+        Ok(self.fault_here(rule, row))
     }
 
     /// What is wrong with the line that has this number, not below that of the last one, and this code.
     fn fault_at_line(&mut self, line: usize, code: u8) -> Finding<'a>
-        ensures { result.line ≡ max self.old.lines.here.number line }
+        ensures told { (file : List ℕ) → IsAtLine file self.old.lines
+            → TellsLineAt file (max self.old.lines.here.number line) code result }
+        ensures number { (self.new.lines.here.number ≡ max self.old.lines.here.number line)
+            × (self.new.number ≡ self.old.number) }
+        ensures at { (file : List ℕ) → IsWalk file self.old → IsWalk file self.new }
     {
         let line = self.lines.read_to(line);
         fault_of_line(self.alloc, &line, code)
@@ -195,7 +284,11 @@ impl<'a> Walk<'a> {
     /// Tells a fault that is not before the last one.
     fn tell(&mut self, fault: Fault) -> Result<FaultRow, AllocError>
         ensures fault { IfOk result (λ told. told.fault ≡ fault) }
-        ensures line { IfOk result (λ told. TellsLine self.old.lines.here.number fault told.line) }
+        ensures told { (file : List ℕ) → IsWalk file self.old
+            → IfOk result (TellsFault file self.old.lines.here.number self.old.number fault) }
+        ensures number { IfOk result (λ _. (self.new.lines.here.number ≡ line_told self.old.lines.here.number fault)
+            × (self.new.number ≡ sentence_told self.old.number fault)) }
+        ensures at { (file : List ℕ) → IsWalk file self.old → IfOk result (λ _. IsWalk file self.new) }
     {
         match fault {
             Fault::Line { line, code } => {
@@ -206,9 +299,10 @@ impl<'a> Walk<'a> {
                 sentence,
                 rule,
                 row,
-            } => self
-                .fault_of_sentence(sentence, rule, row)?
-                .told(self.alloc, fault),
+            } => {
+                let found = self.fault_of_sentence(sentence, rule, row)?;
+                found.told(self.alloc, fault)
+            }
         }
     }
 }
@@ -224,6 +318,7 @@ pub(crate) fn tell_faults(
     faults: &[Fault],
 ) -> Result<Vec<FaultRow>, AllocError>
     ensures faults { IfOk result (λ v. map (λ x. x.fault) v.items ≡ faults.now) }
+    ensures told { IfOk result (λ v. AreTold file.now 0 0 faults.now v.items) }
     ensures sure { faults.now ≡ [] → IsOk result }
 {
     let mut walk = Walk::new(alloc, file);

@@ -1,8 +1,10 @@
 //! The words that explain a refusal, and values in the form in which they are shown.
 
-ghost use Rattle.std.specs.Char.{is_control};
-ghost use Rattle.std.specs.Prelude.{◌≡◌, None, Some, if◌then◌else◌};
+ghost use Rattle.std.specs.Fmt.{WritesOnOk};
+ghost use Rattle.std.specs.Prelude.{◌≡◌, [], chars, codes, encode_utf8_all, if◌then◌else◌, map, None, Some, take};
 ghost use Rattle.std.specs.Result.{result_ok};
+ghost use Rattle.tb_words.specs.Shown.{is_long, visible};
+ghost use Rattle.tb_words.specs.WordsShown.{page_shown, picture_shown, place_shown};
 
 use std::alloc::AllocError;
 use std::fmt::{self, Display, Formatter};
@@ -18,6 +20,11 @@ pub(crate) enum Page {
 }
 
 impl Display for Page {
+    ghost use Rattle.std.specs.Prelude.{Some};
+    ghost use Rattle.tb_words.specs.WordsShown.{page_text};
+
+    ghost output = { λ page. Some (page_text page) };
+
     fn fmt<W: fmt::Write>(&self, f: &mut Formatter<W>) -> fmt::Result {
         match self {
             Page::Code(code) => write!(f, "FORMAT.md, code {code}"),
@@ -95,19 +102,47 @@ impl Words {
     }
 }
 
+/// Writes the place, where there is one.
+fn put_place<W: fmt::Write>(place: &Option<String>, f: &mut Formatter<W>) -> fmt::Result
+    ensures { WritesOnOk W.write_str_gives f.old result (place_shown place.now) f.new }
+{
+    match place {
+        Some(place) => write!(f, "{place}: "),
+        None => Ok(()),
+    }
+}
+
+/// Writes the page, where one is named.
+fn put_page<W: fmt::Write>(page: Option<Page>, f: &mut Formatter<W>) -> fmt::Result
+    ensures { WritesOnOk W.write_str_gives f.old result (page_shown page) f.new }
+{
+    match page {
+        Some(page) => write!(f, " ({page})"),
+        None => Ok(()),
+    }
+}
+
+/// Writes the picture on lines of its own, where there is one.
+fn put_picture<W: fmt::Write>(picture: &Option<String>, f: &mut Formatter<W>) -> fmt::Result
+    ensures { WritesOnOk W.write_str_gives f.old result (picture_shown picture.now) f.new }
+{
+    match picture {
+        Some(picture) => write!(f, "\n{picture}"),
+        None => Ok(()),
+    }
+}
+
 impl Display for Words {
+    ghost use Rattle.std.specs.Prelude.{Some};
+    ghost use Rattle.tb_words.specs.WordsShown.{words_text};
+
+    ghost output = { λ words. Some (words_text words) };
+
     fn fmt<W: fmt::Write>(&self, f: &mut Formatter<W>) -> fmt::Result {
-        if let Some(place) = &self.place {
-            write!(f, "{place}: ")?;
-        }
+        put_place(&self.place, f)?;
         f.write_str(self.sentence)?;
-        if let Some(page) = self.page {
-            write!(f, " ({page})")?;
-        }
-        match &self.picture {
-            Some(picture) => write!(f, "\n{picture}"),
-            None => Ok(()),
-        }
+        put_page(self.page, f)?;
+        put_picture(&self.picture, f)
     }
 }
 
@@ -129,21 +164,50 @@ pub(crate) fn shown(value: &str) -> Excerpt<'_>
 
 /// A character, or U+FFFD in the place of a control character.
 pub(crate) fn visible(c: char) -> char
-    ensures { result ≡ (if is_control c then 0xFFFD else c) }
+    ensures { result ≡ visible c }
 {
     if c.is_control() { '\u{FFFD}' } else { c }
 }
 
-impl Display for Excerpt<'_> {
-    fn fmt<W: fmt::Write>(&self, f: &mut Formatter<W>) -> fmt::Result {
-        for c in self.value.chars().take(MOST) {
-            let seen = visible(c);
-            write!(f, "{seen}")?;
-        }
-        if self.value.chars().nth(MOST).is_some() {
-            f.write_str("..")?;
-        }
+/// Whether a value has more characters than are shown.
+fn is_long(value: &str) -> bool
+    ensures { result ≡ is_long value.now }
+{
+    value.chars().nth(MOST).is_some()
+}
+
+/// Writes the characters of a value that are shown.
+fn put_front<W: fmt::Write>(value: &str, f: &mut Formatter<W>) -> fmt::Result
+    ensures { WritesOnOk W.write_str_gives f.old result
+        (encode_utf8_all (map visible (take 40 (chars value.now)))) f.new }
+{
+    for c in value.chars().take(MOST) {
+        let seen = visible(c);
+        write!(f, "{seen}")?;
+    }
+    Ok(())
+}
+
+/// Writes dots after a value that was cut.
+fn put_dots<W: fmt::Write>(value: &str, f: &mut Formatter<W>) -> fmt::Result
+    ensures { WritesOnOk W.write_str_gives f.old result (if is_long value.now then codes ".." else []) f.new }
+{
+    if is_long(value) {
+        f.write_str("..")
+    } else {
         Ok(())
+    }
+}
+
+impl Display for Excerpt<'_> {
+    ghost use Rattle.std.specs.Prelude.{Some};
+    ghost use Rattle.tb_words.specs.Shown.{excerpt};
+
+    ghost output = { λ shown. Some (excerpt shown.value.now) };
+
+    fn fmt<W: fmt::Write>(&self, f: &mut Formatter<W>) -> fmt::Result {
+        put_front(self.value, f)?;
+        put_dots(self.value, f)
     }
 }
 

@@ -1,4 +1,4 @@
-use Rattle.std.proofs.Common.{Bor, List, ap, length, map, subst, sym, ℕ, ◌∙◌}
+use Rattle.std.proofs.Common.{Bor, List, map, subst, sym, ℕ, ◌∙◌}
 use Rattle.std.proofs.lemmas.List.{length-map}
 use Rattle.tb_words.proofs.Counted.{words_drained}
 use Rattle.tb_words.specs.LineFaults.{AreWords}

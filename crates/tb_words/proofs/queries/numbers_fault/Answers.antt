@@ -1,4 +1,4 @@
-use Rattle.std.proofs.Common.{subst, List, Option, ℕ}
+use Rattle.std.proofs.Common.{subst, List, ℕ}
 use Rattle.tb_words.specs.QueryNumbers.{IsNumber}
 use Rattle.tb_words.proofs.queries.numbers_fault.Goals as goal
 

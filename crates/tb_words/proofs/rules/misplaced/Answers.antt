@@ -1,4 +1,4 @@
-use Rattle.std.proofs.Common.{IfSome, Some, ap, arith, subst, sym, ◌+◌, ◌<◌, ◌^◌, ◌≡◌, ◌∙◌}
+use Rattle.std.proofs.Common.{IfSome, ap, arith, subst, sym, ◌≡◌, ◌∙◌}
 use Rattle.std.proofs.lemmas.Bool.{true≢false}
 use Rattle.tb_conllu.specs.Text.{RowText}
 use Rattle.tb_conllu.specs.declared.id.LineId.{LineId}

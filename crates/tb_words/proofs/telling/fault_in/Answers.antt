@@ -10,4 +10,4 @@ pub returns : goal.returns
 returns c =
     by_rule c.args.file.now c.args.placed.now c.args.rule c.args.row c.fault_by.result (λ is. omega (arith, is, c.if-rule-eq12.false))
     c.fault_by.ensures.sent_id c.fault_by.ensures.text c.fault_by.ensures.order c.fault_by.ensures.rows c.fault_by.ensures.roots
-    c.fault_by.ensures.circle
+    c.fault_by.ensures.circle c.fault_by.ensures.spelling

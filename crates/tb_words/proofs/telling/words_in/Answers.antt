@@ -7,4 +7,5 @@ returns c = (
   c.in_ok-placed.ensures,
   c.in_ok-fault.ensures,
   c.words.ensures.sentence,
+  c.words.ensures.place,
 )
