@@ -1,10 +1,10 @@
 -- Calls after calls, while a command waits for a file.
-use Rattle.std.proofs.Common.{◌≡◌, ◌≤◌, ◌++◌, ◌+◌, ◌<◌, ◌^◌, ◌-◌, ℕ, List, [], ◌∷◌, length, Option, Some, None, Result, Ok, Err, MatchResult, refl, sym, ◌∙◌, ap, subst, inl, inr, arith}
+use Rattle.std.proofs.Common.{◌≡◌, ◌≤◌, ◌++◌, ◌+◌, ◌^◌, ◌-◌, ℕ, List, [], ◌∷◌, length, Option, Some, None, Ok, refl, sym, ◌∙◌, ap, subst, inl, inr, arith}
 use Rattle.std.proofs.lemmas.List.{append_assoc, append-nil, length-append}
 use Rattle.std.specs.Duration.{as_nanos}
 use Rattle.std.specs.declared.time.Duration.{Duration}
 use Rattle.sqlite_std_file.specs.declared.pair.OpenError.{OpenError}
-use Rattle.tb_host.specs.Awaiting.{AreVain, Call, EndsWaiting, HasWaited, IsVainWait, IsWait, Makes, clock_read, locked, none, one_more, paused}
+use Rattle.tb_host.specs.Awaiting.{AreVain, Call, HasWaited, IsVainWait, IsWait, Makes, clock_read, locked, none, one_more, paused}
 use Rattle.tb_host.specs.Causes.{IsPathCause}
 use Rattle.tb_host.specs.Patience.{IsPause}
 use Rattle.tb_host.specs.declared.causes.FileCause.{FileCause}

@@ -1,9 +1,10 @@
 -- Why no desk is listed.
-use Rattle.std.proofs.Common.{◌≡◌, ◌⊎◌, refl, sym, subst, inl, inr, Option, Some, None, Result, Ok, Err, IfErr, IsSomeAnd}
+use Rattle.std.proofs.Common.{◌≡◌, ◌⊎◌, ℕ, List, refl, sym, subst, inl, inr, Option, Some, None, Result, Ok, Err, IfErr, IsSomeAnd}
 use Rattle.std.specs.Option.{ok_or}
-use Rattle.tb_host.specs.Contents.{IsFailedCall, version_by}
+use Rattle.std.specs.declared.fs.attrs.Metadata.{Metadata}
+use Rattle.tb_host.specs.Contents.{IsFailedCall, IsNotPlain, IsReserved, IsUnversioned, Path, version_by}
 use Rattle.tb_host.specs.declared.causes.FileCause.{FileCause}
-use Rattle.tb_host.specs.declared.causes.FileCause.TheVariants.{OtherDatabase}
+use Rattle.tb_host.specs.declared.causes.FileCause.TheVariants.{OtherDatabase, ReservedName}
 use Rattle.tb_host.specs.declared.contents.Version.{Version}
 
 -- neither a log nor its file lists one
@@ -32,3 +33,10 @@ pub by_rest : (L : Type 0) (P : FileCause → Type 0) (in_file : Option Version)
 by_rest L P in_file (Ok v) h failed other = tt
 by_rest L P in_file (Err cause) (inl h) failed other = failed cause h
 by_rest L P in_file (Err cause) (inr h) failed other = subst P (sym h.0) (other h.1 h.2)
+
+-- a path does not lead to a plain file
+pub not_led : (IsTarget : Result (Option Metadata) FileCause → Type 0) (IsReal : Result Path FileCause → Type 0) (IsThere : List ℕ → Option Metadata → Type 0)
+    (IsBeginning : List ℕ → ℕ → List ℕ → Type 0) (path : List ℕ) (cause : FileCause) (result : Result Version FileCause) → result ≡ Err cause
+    → ((cause ≡ ReservedName) × IsReserved path) ⊎ IsNotPlain IsTarget IsReal cause → IfErr result (IsUnversioned IsTarget IsReal IsThere IsBeginning path)
+not_led IsTarget IsReal IsThere IsBeginning path cause result is (inl h) = subst (λ r. IfErr r (IsUnversioned IsTarget IsReal IsThere IsBeginning path)) (sym is) (inl h)
+not_led IsTarget IsReal IsThere IsBeginning path cause result is (inr h) = subst (λ r. IfErr r (IsUnversioned IsTarget IsReal IsThere IsBeginning path)) (sym is) (inr (inr (inl h)))

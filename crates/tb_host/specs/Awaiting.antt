@@ -1,7 +1,6 @@
 -- Inner: no contract beyond this crate cites a definition of this module.
 -- The calls of the system with which a command waits for a file that another command has open.
-use Rattle.std.specs.Prelude.{◌≡◌, ◌⊎◌, ◌≤◌, ◌++◌, ◌^◌, ◌-◌, ℕ, List, [], ◌∷◌, length, ⊤, Option, None, Some, IsSome, Result, Ok, Err}
-use Rattle.std.specs.Result.{result_err}
+use Rattle.std.specs.Prelude.{◌≡◌, ◌⊎◌, ◌≤◌, ◌++◌, ◌^◌, ◌-◌, ℕ, List, [], ◌∷◌, length, ⊤, Option, None, Some, Result, Ok, Err}
 use Rattle.std.specs.Duration.{as_nanos}
 use Rattle.std.specs.declared.time.Duration.{Duration}
 use Rattle.sqlite_std_file.specs.declared.pair.OpenError.{OpenError}

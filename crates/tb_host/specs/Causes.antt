@@ -117,6 +117,22 @@ abbrev pub reply_of_error : DatabaseError → Reply
 reply_of_error (SqliteFailure code) = reply_of_code code
 reply_of_error _ = reply.Desk
 
+-- For a file that the database does not open. Where its device failed, the system's last error may say more.
+abbrev pub IsErrorCause : DatabaseError → FileCause → Type 0
+IsErrorCause (SqliteFailure code.OutOfMemory) c = c ≡ file.Memory
+IsErrorCause (SqliteFailure code.DiskFull) c = IsDeviceCause file.Full c
+IsErrorCause (SqliteFailure code.DatabaseBusy) c = c ≡ file.Busy
+IsErrorCause (SqliteFailure code.SystemIoFailure) c = IsDeviceCause file.Failed c
+IsErrorCause _ c = c ≡ file.Damaged
+
+-- For a database in which no desk is opened, made or migrated; `not_a_desk` where its tables or rows do not allow it.
+abbrev pub IsFaultCause : Fault → (not_a_desk result : FileCause) → Type 0
+IsFaultCause fault.Memory not_a_desk c = c ≡ file.Memory
+IsFaultCause fault.Device not_a_desk c = IsDeviceCause file.Failed c
+IsFaultCause fault.Output not_a_desk c = IsDeviceCause file.Failed c
+IsFaultCause fault.NotADesk not_a_desk c = c ≡ not_a_desk
+IsFaultCause (fault.Refused refusal) not_a_desk c = c ≡ not_a_desk
+
 -- the line for a database in which no desk is opened, made or migrated
 abbrev pub reply_of_fault : Fault → Reply
 reply_of_fault fault.Memory = reply.Memory

@@ -44,6 +44,11 @@ pub record IsLogName (name : List ℕ) : Type 0 where
   pub file : List ℕ
   pub ends : name ≡ file ++ codes "-wal"
 
+-- the name of the log of the file at a path, or of the one to which a link there leads, where the system says that
+abbrev pub log_name : (path : List ℕ) → (real : Result (PathBuf Global) FileCause) → List ℕ
+log_name path (Ok real) = path_buf_bytes real ++ codes "-wal"
+log_name path (Err cause) = path ++ codes "-wal"
+
 -- The file holds something, and does not begin as a database does.
 abbrev pub IsOtherFile : (head : List ℕ) → Type 0
 IsOtherFile head = (head ≢ []) × ¬ BeginsWith head (codes "SQLite format 3\0")
@@ -157,12 +162,25 @@ abbrev pub HasNoJournal : (IsBeginning : List ℕ → ℕ → List ℕ → Type 
 HasNoJournal IsBeginning path = (first : List ℕ) × IsBeginning (path ++ codes "-journal") 1 first
     × (is_hot first ≡ false)
 
+-- A journal beside the file may have to be played back: it is no plain file, or its beginning says so.
+abbrev pub HasJournal : (IsThere : List ℕ → Option Metadata → Type 0)
+    → (IsBeginning : List ℕ → ℕ → List ℕ → Type 0) → (path : List ℕ) → Type 0
+HasJournal IsThere IsBeginning path =
+    ((found : Metadata) × IsThere (path ++ codes "-journal") (Some found) × ¬ IsFile (file_type found))
+    ⊎ ((first : List ℕ) × IsBeginning (path ++ codes "-journal") 1 first × (is_hot first ≡ true))
+
 -- The first bytes of a file, or those of its log, list the tables of a desk of this version. Of the file 65,536 are read,
 -- of the log 4,194,304.
 abbrev pub ListsDesk : (IsBeginning : List ℕ → ℕ → List ℕ → Type 0) → (path : List ℕ) → Version → Type 0
 ListsDesk IsBeginning path version =
     ((head : List ℕ) × IsBeginning path 65536 head × IsListed head (Some version))
     ⊎ ((log : List ℕ) × IsBeginning (path ++ codes "-wal") 4194304 log × IsListed log (Some version))
+
+-- a path leads to a plain file that lists the tables of a desk of this version, and has no journal to be played back
+abbrev pub HasDeskAt : (IsTarget : Result (Option Metadata) FileCause → Type 0)
+    → (IsReal : Result Path FileCause → Type 0) → (IsBeginning : List ℕ → ℕ → List ℕ → Type 0) → Version → Type 0
+HasDeskAt IsTarget IsReal IsBeginning version = (real : Path) × LeadsTo IsTarget IsReal (Some real)
+    × ListsDesk IsBeginning (path_buf_bytes real) version × HasNoJournal IsBeginning (path_buf_bytes real)
 
 -- the cause for a call of the system that failed, or for want of memory
 abbrev pub IsFailedCall : FileCause → Type 0
@@ -183,6 +201,23 @@ IsUnlisted IsThere IsBeginning path cause = IsFailedCall cause
     × ¬ IsFile (file_type found)))
     ⊎ ((cause ≡ file.Empty) × IsBeginning path 65536 [])
     ⊎ ((cause ≡ file.OtherDatabase) × ListsNoDesk IsBeginning path)
+
+-- why no desk is listed in a file that may have a journal beside it
+abbrev pub IsUnlistedAlone : (IsThere : List ℕ → Option Metadata → Type 0)
+    → (IsBeginning : List ℕ → ℕ → List ℕ → Type 0) → (path : List ℕ) → FileCause → Type 0
+IsUnlistedAlone IsThere IsBeginning path cause = ((cause ≡ file.Journal) × HasJournal IsThere IsBeginning path)
+    ⊎ IsUnlisted IsThere IsBeginning path cause
+
+-- Why no desk is listed at a path: SQLite gives it a meaning of its own, nothing is there, it leads to no plain file, or
+-- the file lists none.
+abbrev pub IsUnversioned : (IsTarget : Result (Option Metadata) FileCause → Type 0)
+    → (IsReal : Result Path FileCause → Type 0) → (IsThere : List ℕ → Option Metadata → Type 0)
+    → (IsBeginning : List ℕ → ℕ → List ℕ → Type 0) → (path : List ℕ) → FileCause → Type 0
+IsUnversioned IsTarget IsReal IsThere IsBeginning path cause = ((cause ≡ file.ReservedName) × IsReserved path)
+    ⊎ ((cause ≡ file.Missing) × IsTarget (Ok None))
+    ⊎ IsNotPlain IsTarget IsReal cause
+    ⊎ ((real : Path) × LeadsTo IsTarget IsReal (Some real)
+    × IsUnlistedAlone IsThere IsBeginning (path_buf_bytes real) cause)
 
 -- the greatest length of a log that a stopped `new` leaves: one mebibyte
 abbrev pub own_log_limit : ℕ

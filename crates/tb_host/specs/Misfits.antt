@@ -1,8 +1,10 @@
 -- Inner: no contract beyond this crate cites a definition of this module.
 -- Names of tables, in the words for what is wrong with their rows and in the queries that look for it. Which sentence
 -- has rows that belong to none.
-use Rattle.std.specs.Prelude.{◌≡◌, ℕ, min, List, [], ◌∷◌, codes, ⊤, Option, None, Some}
+use Rattle.std.specs.Prelude.{◌≡◌, ◌<◌, ◌+◌, ℕ, min, List, [], ◌∷◌, codes, length, get_or, pos, ⊤, Option, None, Some}
 use Rattle.std.specs.Prelude.{Result, Ok, Err}
+use Rattle.sqlite.specs.Order.{Row, column}
+use Rattle.sqlite.specs.declared.types.Value.TheVariants.{Int}
 use Rattle.tb_reads.specs.declared.error.ReadError.{ReadError}
 use Rattle.tb_reads.specs.declared.error.ReadError.TheVariants.{Form, Store}
 use Rattle.tb_tables.specs.declared.rows.RevisionRow.{RevisionRow}
@@ -63,3 +65,18 @@ IsUnreadable t (Found _) = ⊥
 abbrev pub IsStopOf : ReadError → Table → Stop → Type 0
 IsStopOf Form t stop = IsUnreadable t stop
 IsStopOf (Store e) t stop = stop ≡ Failed
+
+-- ---- rows that are numbered from 1
+
+-- each of the first rows is right, by its number
+abbrev pub AreRight : {A : Type 0} → (IsRight : (number : ℕ) → A → Type 0) → List A → (count : ℕ) → Type 0
+AreRight {A} IsRight rows count = (k : ℕ) → (d : A) → k < count → IsRight (k + 1) (get_or rows k d)
+
+-- the row with this number is wrong, and those before it are right
+abbrev pub IsFirstOff : {A : Type 0} → (IsRight : (number : ℕ) → A → Type 0) → List A → (number : ℕ) → Type 0
+IsFirstOff {A} IsRight rows number = (k : ℕ) × (number ≡ k + 1) × (k < length rows) × AreRight IsRight rows k
+    × ((d : A) → ¬ IsRight (k + 1) (get_or rows k d))
+
+-- the row has this number in its first column
+abbrev pub HasNumber : (number : ℕ) → Row → Type 0
+HasNumber number row = column row 0 ≡ Int (pos number)

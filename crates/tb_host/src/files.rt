@@ -7,11 +7,12 @@ ghost use Rattle.sqlite.specs.Files.{IsOpened, file_state, over_files};
 ghost use Rattle.sqlite.specs.State.{HasCleanDisk};
 ghost use Rattle.sqlite.specs.Steps.{over_memory};
 ghost use Rattle.tb_host.specs.Awaiting.{HasWaited, Makes, closed, dropped, undone};
-ghost use Rattle.tb_host.specs.Causes.{reply_of, reply_of_error, reply_of_fault};
+ghost use Rattle.tb_host.specs.Causes.{IsErrorCause, IsFaultCause, reply_of, reply_of_error, reply_of_fault};
 ghost use Rattle.tb_host.specs.declared.causes.FileCause.{FileCause as AnyFileCause};
 ghost use Rattle.sqlite.specs.declared.error.Error.{Error as DatabaseError};
 ghost use Rattle.tb_host.specs.Contents.{IsLogName, IsReserved, IsUndone, cause_to_migrate, is_empty_log, is_missing};
-ghost use Rattle.tb_host.specs.Contents.{may_be_opened, size_of, was_there, what_to_undo};
+ghost use Rattle.tb_host.specs.Contents.{Path, log_name, may_be_opened, size_of, was_there, what_to_undo};
+ghost use Rattle.tb_host.specs.declared.misfit.Misfit.{Misfit as AnyMisfit};
 ghost use Rattle.tb_host.specs.declared.found.Found.{Found as FoundFile};
 ghost use Rattle.tb_host.specs.Opened.{IsEmptyDesk, IsMadeDesk, IsSomeDesk};
 
@@ -26,8 +27,8 @@ use sqlite::{Connection, Error, ErrorCode, File, FileStore, Leftover, MemStore, 
 use sqlite_disk::{Disk, Files};
 use std::alloc::Global;
 use std::hash::{BuildHasher, RandomState};
+use std::io;
 use std::io::ErrorKind;
-use std::{fs, io};
 use tb_core::{Fault, Limits};
 use tb_http::Reply;
 use tb_store::{Desk, Unmade};
@@ -55,7 +56,8 @@ const LIMITS: Limits = Limits {
 
 /// The cause for a file that the database does not open.
 fn cause_of_error(error: Error) -> FileCause
-    ensures { reply_of result ≡ reply_of_error error }
+    ensures reply { reply_of result ≡ reply_of_error error }
+    ensures cause { IsErrorCause error result }
 {
     match error {
         Error::SqliteFailure(ErrorCode::OutOfMemory) => FileCause::Memory,
@@ -68,7 +70,8 @@ fn cause_of_error(error: Error) -> FileCause
 
 /// The cause for a database that cannot be opened as a desk; `not_a_desk` where its tables or rows do not allow it.
 fn cause_of_fault(fault: Fault, not_a_desk: FileCause) -> FileCause
-    ensures { reply_of not_a_desk ≡ Reply.Desk → reply_of result ≡ reply_of_fault fault }
+    ensures reply { reply_of not_a_desk ≡ Reply.Desk → reply_of result ≡ reply_of_fault fault }
+    ensures cause { IsFaultCause fault not_a_desk result }
 {
     match fault {
         Fault::Memory => FileCause::Memory,
@@ -153,13 +156,15 @@ struct Log {
 }
 
 /// The path of the log beside the file at this path, or beside the one to which a link there leads.
-fn log_path(rt: &HostRuntime, path: &str) -> Result<String, FileCause>
+fn log_path<S: System>(system: &S, path: &str) -> Result<String, FileCause>
     ensures name { IfOk result (λ name. IsLogName (string_bytes name)) }
+    ensures beside { IfOk result (λ name. (real : Result Path AnyFileCause) × S.IsReal system.now path.now real
+        × (string_bytes name ≡ log_name path.now real)) }
     ensures cause { IfErr result (λ cause. cause ≡ FileCause.Memory) }
 {
-    match fs::canonicalize(rt, path) {
-        Ok(real) => beside(rt.alloc(), real.as_str(), "-wal"),
-        Err(_) => beside(rt.alloc(), path, "-wal"),
+    match system.real(path) {
+        Ok(real) => beside(system.memory(), real.as_str(), "-wal"),
+        Err(_) => beside(system.memory(), path, "-wal"),
     }
 }
 
@@ -178,13 +183,17 @@ impl Log {
         }
     }
 
-    fn before(rt: &HostRuntime, path: &str) -> Result<Log, FileCause>
+    fn before<S: System>(system: &S, path: &str) -> Result<Log, FileCause>
         ensures name { IfOk result (λ log. IsLogName (string_bytes log.path)) }
+        ensures beside { IfOk result (λ log. (real : Result Path AnyFileCause) × S.IsReal system.now path.now real
+            × (string_bytes log.path ≡ log_name path.now real)) }
+        ensures there { IfOk result (λ log. (found : Result FoundFile SystemError)
+            × S.IsFound system.now (string_bytes log.path) found × (log.was_there ≡ was_there found)) }
         ensures unseen { IfOk result (λ log. log.is_empty ≡ false) }
         ensures cause { IfErr result (λ cause. cause ≡ FileCause.Memory) }
     {
-        let path = log_path(rt, path)?;
-        Ok(Log::unlocked(rt, path))
+        let name = log_path(system, path)?;
+        Ok(Log::unlocked(system, name))
     }
 
     /// Looks at the log again. The file is locked now, so nobody else writes the log.
@@ -278,7 +287,7 @@ fn connection<S: System, D: Disk + Drop>(
     opened: Result<Connection<FileStore<D>>, (Error, Leftover<D>)>,
 ) -> Result<Connection<FileStore<D>>, FileCause>
     ensures { MatchResult opened (λ c. result ≡ Opened c)
-        (λ e. IsErrAnd result (λ cause. reply_of cause ≡ reply_of_error e.0)) }
+        (λ e. IsErrAnd result (λ cause. (reply_of cause ≡ reply_of_error e.0) × IsErrorCause e.0 cause)) }
 {
     match opened {
         Ok(conn) => Ok(conn),
@@ -304,7 +313,8 @@ fn over<S: System, D: Disk + Drop>(
     requires db { IsTrue (D.Disk.is_usable files.db) }
     ensures new { IfOk result (λ c. c.in_transaction ≡ false) }
     ensures opened { IfOk result (λ c. HasCleanDisk (file_state c) → IsOpened c) }
-    ensures cause { IfErr result (λ cause. (e : DatabaseError) × (reply_of cause ≡ reply_of_error e)) }
+    ensures cause { IfErr result (λ cause. (e : DatabaseError) × (reply_of cause ≡ reply_of_error e)
+        × IsErrorCause e cause) }
 {
     connection(
         system,
@@ -324,7 +334,8 @@ fn over_locked<S: System, D: Disk + Drop>(
     requires db { IsTrue (D.Disk.is_usable files.db) }
     ensures new { IfOk result (λ c. c.in_transaction ≡ false) }
     ensures opened { IfOk result (λ c. HasCleanDisk (file_state c) → IsOpened c) }
-    ensures cause { IfErr result (λ cause. (e : DatabaseError) × (reply_of cause ≡ reply_of_error e)) }
+    ensures cause { IfErr result (λ cause. (e : DatabaseError) × (reply_of cause ≡ reply_of_error e)
+        × IsErrorCause e cause) }
     ensures same { (log.new.path ≡ log.old.path) × (log.new.was_there ≡ log.old.was_there) }
     ensures seen { (found : Result FoundFile SystemError) × S.IsFound system.now (string_bytes log.old.path) found
         × (log.new.is_empty ≡ is_empty_log found) }
@@ -346,7 +357,8 @@ fn connect_to<S: System, D: Disk + Drop, A: Awaited<D>>(
     ensures waited { (ended : Option AnyFileCause) × HasWaited (A.calls awaited.old) (A.calls awaited.new) ended
         × MatchOption ended
         ((found : Result FoundFile SystemError) × S.IsFound system.now (string_bytes log.old.path) found
-        × (log.new.is_empty ≡ is_empty_log found))
+        × (log.new.is_empty ≡ is_empty_log found)
+        × IfErr result (λ cause. (e : DatabaseError) × IsErrorCause e cause))
         (λ cause. (result ≡ ErrOf cause) × (log.new ≡ log.old)) }
 {
     match locked(awaited) {
@@ -421,18 +433,18 @@ trait Parts {
 
 /// A connection to a file of the system's, until it is let go.
 #[derive(Drop)]
-struct Connected<'a> {
-    rt: &'a HostRuntime,
+struct Connected<'a, S> {
+    system: &'a S,
     conn: Option<Connection<FileStore<File>>>,
 }
 
-impl Parts for Connected<'_> {
+impl<S: System> Parts for Connected<'_, S> {
     ghost use Rattle.std.specs.Prelude.{None};
 
     ghost done = { λ _. None };
 
     fn undo(&mut self, log: &Log) {
-        let _ = log.undo(self.rt);
+        let _ = log.undo(self.system);
     }
 
     fn let_go(&mut self) {
@@ -468,18 +480,19 @@ fn part_with<P: Parts>(file: &mut P, log: &Log, is_no_desk: bool)
 }
 
 /// Why no desk was made of a connection. The file is closed, and what is no desk stays as it was.
-fn given_up(
-    rt: &HostRuntime,
+fn given_up<S: System>(
+    system: &S,
     log: &Log,
     fault: Fault,
     conn: Connection<FileStore<File>>,
     not_a_desk: FileCause,
 ) -> FileCause
-    ensures { reply_of not_a_desk ≡ Reply.Desk → reply_of result ≡ reply_of_fault fault }
+    ensures reply { reply_of not_a_desk ≡ Reply.Desk → reply_of result ≡ reply_of_fault fault }
+    ensures cause { IsFaultCause fault not_a_desk result }
 {
     let cause = cause_of_fault(fault, not_a_desk);
     let mut file = Connected {
-        rt,
+        system,
         conn: Some(conn),
     };
     part_with(&mut file, log, cause.is_no_desk());
@@ -488,36 +501,40 @@ fn given_up(
 
 /// The desk that was opened over a connection to a file, or the cause for which none was. Its words name the row that is
 /// wrong.
-fn opened_in_file(
-    rt: &HostRuntime,
+fn opened_in_file<S: System>(
+    system: &S,
     log: &Log,
     adopted: Result<Desk<FileStore<File>>, Unmade<FileStore<File>>>,
 ) -> Result<FileDesk, FileCause>
-    ensures { MatchResult adopted (λ d. IsOkAnd result (λ file. file.desk ≡ d))
+    ensures opened { MatchResult adopted (λ d. IsOkAnd result (λ file. file.desk ≡ d))
         (λ u. IsErrAnd result (λ cause. reply_of cause ≡ reply_of_fault u.fault)) }
+    ensures cause { IfErr adopted (λ u. (misfit : Option AnyMisfit)
+        × IsErrAnd result (IsFaultCause u.fault (FileCause.Rows misfit))) }
 {
     match adopted {
         Ok(desk) => Ok(FileDesk { desk }),
         Err(Unmade { fault, mut conn }) => {
-            let not_a_desk = FileCause::Rows(misfit_of(rt, fault, &mut conn));
-            Err(given_up(rt, log, fault, conn, not_a_desk))
+            let not_a_desk = FileCause::Rows(misfit_of(system, fault, &mut conn));
+            Err(given_up(system, log, fault, conn, not_a_desk))
         }
     }
 }
 
 /// The desk that was made or migrated over a connection to a file, or the cause for which none was.
-fn made_in_file(
-    rt: &HostRuntime,
+fn made_in_file<S: System>(
+    system: &S,
     log: &Log,
     made: Result<Desk<FileStore<File>>, Unmade<FileStore<File>>>,
     not_a_desk: FileCause,
 ) -> Result<FileDesk, FileCause>
-    ensures { reply_of not_a_desk ≡ Reply.Desk → MatchResult made (λ d. IsOkAnd result (λ file. file.desk ≡ d))
+    ensures made { reply_of not_a_desk ≡ Reply.Desk → MatchResult made
+        (λ d. IsOkAnd result (λ file. file.desk ≡ d))
         (λ u. IsErrAnd result (λ cause. reply_of cause ≡ reply_of_fault u.fault)) }
+    ensures cause { IfErr made (λ u. IsErrAnd result (IsFaultCause u.fault not_a_desk)) }
 {
     match made {
         Ok(desk) => Ok(FileDesk { desk }),
-        Err(Unmade { fault, conn }) => Err(given_up(rt, log, fault, conn, not_a_desk)),
+        Err(Unmade { fault, conn }) => Err(given_up(system, log, fault, conn, not_a_desk)),
     }
 }
 

@@ -3,11 +3,11 @@
 
 ghost use Rattle.std.specs.Prelude.{◌≡◌, ◌⊎◌, ◌↔◌, ◌++◌, ◌<◌, ◌≤◌, ℕ, List, Bool, IfErr, IfOk, IsOkAnd, IsSomeAnd};
 ghost use Rattle.std.specs.Prelude.{IsTrue, Err as ErrOf, MatchResult, None, OnOk, Option, Some, codes, false};
-ghost use Rattle.std.specs.Prelude.{string_bytes};
+ghost use Rattle.std.specs.Prelude.{string_bytes, true};
 ghost use Rattle.std.specs.Fs.{IsDir, IsFile, file_type, metadata_len};
 ghost use Rattle.std.specs.Path.{path_buf_bytes};
 ghost use Rattle.tb_host.specs.Contents.{BeginsWith, HasNoJournal, HasOwnLog, IsBlank, IsListed, IsFailedCall, IsOtherFile};
-ghost use Rattle.tb_host.specs.Contents.{IsUnlisted};
+ghost use Rattle.tb_host.specs.Contents.{HasDeskAt, HasJournal, IsUnlisted, IsUnlistedAlone, IsUnversioned};
 ghost use Rattle.tb_host.specs.Contents.{IsNotPlain, IsReserved, LeadsTo, ListsDesk, ListsTables};
 ghost use Rattle.tb_host.specs.Contents.{MayBeOwnLog, MayBecomeDesk, Path};
 ghost use Rattle.tb_host.specs.Contents.{is_hot, is_looked_at_again, odd_cause, own_log_limit, place_of, version_by};
@@ -92,7 +92,10 @@ fn is_hot(first: &[u8]) -> bool
 
 /// Whether another program has left a journal that has to be played back.
 fn has_journal<S: System>(system: &S, path: &str) -> Result<bool, FileCause>
-    ensures { IfOk result (λ has. has ≡ false → HasNoJournal (S.IsBeginning system.now) path.now) }
+    ensures none { IfOk result (λ has. has ≡ false → HasNoJournal (S.IsBeginning system.now) path.now) }
+    ensures some { IfOk result (λ has. has ≡ true
+        → HasJournal (S.IsThere system.now) (S.IsBeginning system.now) path.now) }
+    ensures cause { IfErr result IsFailedCall }
 {
     if is_no_file(there_beside(system, path, "-journal")?) {
         return Ok(true);
@@ -218,8 +221,9 @@ fn plain(found: &fs::Metadata) -> Result<(), FileCause>
 
 /// The version of desk that a file may be, where no other program has left a journal beside it.
 fn listed_alone<S: System>(system: &S, path: &str) -> Result<Version, FileCause>
-    ensures { IfOk result (λ version. ListsDesk (S.IsBeginning system.now) path.now version
+    ensures lists { IfOk result (λ version. ListsDesk (S.IsBeginning system.now) path.now version
         × HasNoJournal (S.IsBeginning system.now) path.now) }
+    ensures unlisted { IfErr result (IsUnlistedAlone (S.IsThere system.now) (S.IsBeginning system.now) path.now) }
 {
     if has_journal(system, path)? {
         return Err(FileCause::Journal);
@@ -243,7 +247,7 @@ fn plain_at<S: System>(system: &S, path: &str) -> Result<Option<PathBuf>, FileCa
 fn file_at<S: System>(system: &S, path: &str) -> Result<Option<PathBuf>, FileCause>
     ensures reserved { IsReserved path.now → result ≡ ErrOf FileCause.ReservedName }
     ensures leads { IfOk result (LeadsTo (S.IsTarget system.now path.now) (S.IsReal system.now path.now)) }
-    ensures refused { IfErr result (λ cause. IsReserved path.now
+    ensures refused { IfErr result (λ cause. ((cause ≡ FileCause.ReservedName) × IsReserved path.now)
         ⊎ IsNotPlain (S.IsTarget system.now path.now) (S.IsReal system.now path.now) cause) }
 {
     if is_no_path(path) {
@@ -255,15 +259,15 @@ fn file_at<S: System>(system: &S, path: &str) -> Result<Option<PathBuf>, FileCau
 /// The version of the desk that a plain file may be, by its first bytes.
 pub(crate) fn version_of<S: System>(system: &S, path: &str) -> Result<Version, FileCause>
     ensures reserved { IsReserved path.now → result ≡ ErrOf FileCause.ReservedName }
-    ensures lists { IfOk result (λ version. (real : Path)
-        × LeadsTo (S.IsTarget system.now path.now) (S.IsReal system.now path.now) (Some real)
-        × ListsDesk (S.IsBeginning system.now) (path_buf_bytes real) version
-        × HasNoJournal (S.IsBeginning system.now) (path_buf_bytes real)) }
+    ensures lists { IfOk result (HasDeskAt (S.IsTarget system.now path.now) (S.IsReal system.now path.now)
+        (S.IsBeginning system.now)) }
+    ensures unlisted { IfErr result (IsUnversioned (S.IsTarget system.now path.now) (S.IsReal system.now path.now)
+        (S.IsThere system.now) (S.IsBeginning system.now) path.now) }
 {
-    let Some(real) = file_at(system, path)? else {
-        return Err(FileCause::Missing);
-    };
-    listed_alone(system, real.as_str())
+    match file_at(system, path)? {
+        Some(real) => listed_alone(system, real.as_str()),
+        None => Err(FileCause::Missing),
+    }
 }
 
 /// Whether a log is longer than one that a stopped `new` leaves.

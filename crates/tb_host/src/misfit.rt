@@ -1,7 +1,8 @@
 //! Which row is wrong first in a file whose rows are not those of a desk, for the words about it. This decides nothing:
 //! it reads the tables once more, after the file was refused.
 
-ghost use Rattle.std.specs.Prelude.{◌≡◌, ◌≢◌, ◌↔◌, ◌≤◌, ◌<◌, ◌++◌, [], ◌∷◌, length, IsErrAnd, IsOk, IsTrue, MatchResult};
+ghost use Rattle.std.specs.Prelude.{◌≡◌, ◌≢◌, ◌↔◌, ◌≤◌, ◌<◌, ◌++◌, [], ◌∷◌, length, IsErrAnd, IsOk, IsTrue};
+ghost use Rattle.std.specs.Prelude.{MatchOption, MatchResult};
 ghost use Rattle.std.specs.Prelude.{ℕ, IfSome, None, Some, pos};
 ghost use Rattle.std.specs.List.{AllWithin, HoldsAt};
 ghost use Rattle.sqlite.specs.Order.{column};
@@ -9,6 +10,7 @@ ghost use Rattle.sqlite.specs.declared.types.Value.TheVariants.{Int};
 ghost use Rattle.std.specs.Prelude.{Err as ErrOf, Ok as Read, false};
 ghost use Rattle.tb_host.specs.Misfits.{IsStopOf, IsUnreadable, first_pulled, first_revised, found_by};
 ghost use Rattle.tb_host.specs.Misfits.{query_of_numbers, smaller, stop_by, table_name};
+ghost use Rattle.tb_host.specs.Misfits.{AreRight, HasNumber, IsFirstOff};
 
 use sqlite::types::ValueRef;
 use sqlite::{Alter, Connection, Row};
@@ -137,14 +139,25 @@ fn number_in(row: &Row) -> Option<u64>
     }
 }
 
+/// Whether a row has this number.
+fn has_number(row: &Row, number: u64) -> bool
+    ensures { IsTrue result ↔ HasNumber number row.now }
+{
+    match number_in(row) {
+        Some(found) => found == number,
+        None => false,
+    }
+}
+
 /// The first number from 1 that no row has.
-fn first_gap(rows: &[Row]) -> Option<u64> {
-    let mut wanted = 1u64;
-    for row in rows {
-        if number_in(row) != Some(wanted) {
-            return Some(wanted);
+fn first_gap(rows: &[Row]) -> Option<u64>
+    ensures { MatchOption result (AreRight HasNumber rows.now (length rows.now)) (IsFirstOff HasNumber rows.now) }
+{
+    for at in 0..rows.len() {
+        let number = at as u64 + 1;
+        if !has_number(&rows[at], number) {
+            return Some(number);
         }
-        wanted = wanted.saturating_add(1);
     }
     None
 }

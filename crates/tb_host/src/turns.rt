@@ -4,7 +4,6 @@ ghost use Rattle.std.specs.Prelude.{◌≡◌, ◌⊎◌, ◌↔◌, ◌≤◌, 
 ghost use Rattle.std.specs.Prelude.{false, true};
 ghost use Rattle.std.specs.Duration.{as_nanos};
 ghost use Rattle.std.specs.Result.{result_err};
-ghost use Rattle.sqlite_disk.specs.declared.files.Files.{Files as BothFiles};
 ghost use Rattle.tb_host.specs.Awaiting.{Call, HasWaited, IsVainWait, IsWait, Makes};
 ghost use Rattle.tb_host.specs.Causes.{IsPathCause, IsSystemCause};
 ghost use Rattle.tb_host.specs.Patience.{IsPause, milliseconds};

@@ -10,7 +10,7 @@ pub returns-clause-desk : goal.returns-clause-desk
 returns-clause-desk c =
     let made = c.make.result in
     let given = c.make.ensures in
-    handed (λ file. file.desk) _ _ (IsMadeDesk over_files) made c.made_in_file.result (c.made_in_file.ensures refl)
+    handed (λ file. file.desk) _ _ (IsMadeDesk over_files) made c.made_in_file.result (c.made_in_file.ensures.made refl)
     (both _ _ made given.limits (both _ _ made given.certain (both _ _ made given.blank (both _ _ made given.crash given.made))))
     (λ d h. (
       h.0,
