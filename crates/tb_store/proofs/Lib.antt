@@ -6,6 +6,9 @@ pub mod Migrated
 pub mod Lasting
 pub mod Blamed
 pub mod Questions
+pub mod Walks
 pub mod Preparing
 pub mod Netted
 mod Reopened
+mod Resumed
+pub mod InMemory

@@ -9,3 +9,4 @@ pub mod Handing
 pub mod Reopened
 pub mod Blaming
 pub mod Questions
+pub mod Walked

@@ -19,10 +19,12 @@ ghost use Rattle.tb_store.specs.Handing.{TellsOpen, TellsShut, TellsWant, WantsO
 
 mod naming;
 mod releasing;
+mod resuming;
 
 use crate::answers::Current;
 use crate::wanting::certain;
 use crate::{asking, wanting};
+pub use resuming::stopped_in_a_command;
 use sqlite::{Alter, Connection};
 use std::alloc::Global;
 use std::marker::Model;
@@ -425,6 +427,7 @@ impl<S: Alter> Desk<S> {
         body: &[u8],
     ) -> Result<Corrected, Fault>
         ensures ends { EndsAs S.Store self.old self.new result (correct_it number base user.now body.now) corrected_to }
+        ensures output { result ≢ Err Fault.Output }
         ensures cause { BlamesInDoubtAlone S.Store self.old self.new result (λ s so.
             HasRoomIfWritten self.old.limits s (correct_it number base user.now body.now) body.now 1
             (state S.Store self.old.conn) → so) }
@@ -469,6 +472,7 @@ impl<S: Alter> Desk<S> {
     /// The first of `BadName`, `NoSuchBatch`; `WrongState`, `NotYours`, `OwnWork`; `Full`.
     pub fn event(&mut self, name: &str, event: Event, user: &str) -> Result<Moved, Fault>
         ensures ends { EndsAs S.Store self.old self.new result (event_on name.now event user.now) moved_on }
+        ensures output { result ≢ Err Fault.Output }
         ensures cause { BlamesInDoubtAlone S.Store self.old self.new result (λ s so. so) }
         ensures doubt { DoubtsOnDevice self.old self.new result }
         ensures remains { IsTrue self.old.in_doubt → IsTrue self.new.in_doubt }
@@ -493,6 +497,7 @@ impl<S: Alter> Desk<S> {
     /// The first of `BadName`, `NoSuchSentence`; `WrongState`, `Pulled`; `Full`.
     pub fn pull(&mut self, number: u64, user: &str) -> Result<Pulled, Fault>
         ensures ends { EndsAs S.Store self.old self.new result (pull_it number user.now) pulled_out }
+        ensures output { result ≢ Err Fault.Output }
         ensures cause { BlamesInDoubtAlone S.Store self.old self.new result (λ s so. so) }
         ensures doubt { DoubtsOnDevice self.old self.new result }
         ensures remains { IsTrue self.old.in_doubt → IsTrue self.new.in_doubt }
@@ -521,6 +526,7 @@ impl<S: Alter> Desk<S> {
     /// The first of `BadName`, `NoSuchSentence`; `WrongState`, `NotPulled`; `Full`.
     pub fn restore(&mut self, number: u64, user: &str) -> Result<Restored, Fault>
         ensures ends { EndsAs S.Store self.old self.new result (restore_it number user.now) restored_to }
+        ensures output { result ≢ Err Fault.Output }
         ensures cause { BlamesInDoubtAlone S.Store self.old self.new result (λ s so. so) }
         ensures doubt { DoubtsOnDevice self.old self.new result }
         ensures remains { IsTrue self.old.in_doubt → IsTrue self.new.in_doubt }
@@ -564,6 +570,7 @@ impl<S: Alter> Desk<S> {
     /// `SentIdTaken`, with the place in the file, from 1, of the first such sentence; `Full`. The first that holds.
     pub fn import(&mut self, name: &str, user: &str, body: &[u8]) -> Result<Imported, Fault>
         ensures ends { EndsAs S.Store self.old self.new result (import_file name.now user.now body.now) imported }
+        ensures output { result ≢ Err Fault.Output }
         ensures cause { BlamesInDoubtAlone S.Store self.old self.new result (λ s so.
             HasRoomIfWritten self.old.limits s (import_file name.now user.now body.now) body.now
             (length body.now) (state S.Store self.old.conn) → so) }

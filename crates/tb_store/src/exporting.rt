@@ -1,41 +1,19 @@
-//! Writes the texts of many sentences to a sink, one sentence at a time.
+//! Writes the texts of the sentences of a batch to a sink, one sentence at a time.
 
 ghost use Rattle.std.specs.Prelude.{◌≡◌, ◌≢◌, ℕ, Some, Err, false, is_ok};
 ghost use Rattle.tb_store.specs.Prelude.{AnyRefusal, Appends, current_text, HasNumber, HasReason, in_batch, is_name};
-ghost use Rattle.tb_store.specs.Prelude.{IsReadOnly, KnowsDesk, released as released_in, TellsOnErr, TellsOnOk};
+ghost use Rattle.tb_store.specs.Prelude.{IsReadOnly, KnowsDesk, TellsOnErr, TellsOnOk};
 ghost use Rattle.tb_store.specs.Exports.{IsExportBrokenOff, IsPartOfBatch, RefusesBatch};
 ghost use Rattle.tb_store.specs.Blaming.{FailsWithoutDevice};
 
 use crate::asking::known_batch;
-use crate::stopping::fault_of;
+use crate::stopping::reported_walk;
 use sqlite::{Alter, Connection};
 use std::alloc::Global;
 use tb_conllu::Sink;
 use tb_core::{Fault, Refusal, good_name};
 use tb_refine::batch_number;
-use tb_search::{export_numbered, export_released};
-
-/// Writes the text of all released sentences, in the order of their numbers.
-pub(crate) fn released<S: Alter, W: Sink>(
-    alloc: Global,
-    conn: &mut Connection<S>,
-    out: &mut W,
-) -> Result<(), Fault>
-    ensures put { TellsOnOk S.Store conn.old conn.new result (λ s. Appends (W.held out.old) (W.held out.new)
-        (current_text (released_in s))) }
-    ensures part { TellsOnErr S.Store conn.old conn.new result (λ s e. IsExportBrokenOff e (W.held out.old)
-        (W.held out.new) (released_in s)) }
-    ensures never_refuses { (r : AnyRefusal) → result ≢ Err (Fault.Refused r) }
-    ensures output { result ≡ Err Fault.Output → HasReason (W.IsRefusal out.new) }
-    ensures fails { KnowsDesk S.Store conn.old conn.new result }
-    ensures cause { FailsWithoutDevice S.Store conn.old conn.new result }
-    ensures read_only { IsReadOnly S.Store conn.old conn.new (is_ok result) }
-{
-    match export_released(alloc, conn, out) {
-        Ok(()) => Ok(()),
-        Err(stopped) => Err(fault_of(stopped)),
-    }
-}
+use tb_search::export_numbered;
 
 /// Writes the text of all sentences of the batch with this number, pulled ones too, in the order of their numbers.
 fn numbered<S: Alter, W: Sink>(
@@ -54,10 +32,7 @@ fn numbered<S: Alter, W: Sink>(
     ensures cause { FailsWithoutDevice S.Store conn.old conn.new result }
     ensures read_only { IsReadOnly S.Store conn.old conn.new (is_ok result) }
 {
-    match export_numbered(alloc, conn, number, out) {
-        Ok(()) => Ok(()),
-        Err(stopped) => Err(fault_of(stopped)),
-    }
+    reported_walk(export_numbered(alloc, conn, number, out))
 }
 
 /// Writes the text of all sentences of the batch with this name, pulled ones too, in the order of their numbers.

@@ -10,6 +10,7 @@ mod asking;
 mod desk;
 mod exporting;
 mod finding;
+mod laws;
 mod memory;
 mod migrating;
 mod reopening;
@@ -17,7 +18,8 @@ mod stopping;
 mod wanting;
 
 pub use answers::{Current, DeskCounts};
-pub use desk::{Desk, Unmade, left_by_a_crash};
+pub use desk::{Desk, Unmade, left_by_a_crash, stopped_in_a_command};
+pub use laws::{commands_in_memory_blame_in_doubt_alone, questions_in_memory_blame_no_device};
 pub use reopening::left_to_the_next_run;
 pub use tb_core::{
     Corrected, Event, Fault, Imported, Kind, Limits, Move, Moved, Pulled, Refusal, Restored, State,

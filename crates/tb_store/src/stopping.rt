@@ -5,6 +5,7 @@ ghost use Rattle.tb_store.specs.Prelude.{AnyRefusal, IsCutShort, IsFault, IsNoDe
 ghost use Rattle.tb_store.specs.Prelude.{IsStopWant, Occurrence, Sentence};
 ghost use Rattle.tb_store.specs.Exports.{IsExportBrokenOff, fault_of_stop};
 ghost use Rattle.tb_store.specs.Found.{IsPartFound};
+ghost use Rattle.tb_store.specs.Walked.{ReportsWalk};
 
 use tb_core::Fault;
 use tb_refine::faults;
@@ -27,5 +28,15 @@ pub(crate) fn fault_of(stopped: Stopped) -> Fault
     match stopped {
         Stopped::Read(error) => faults::of_read(error),
         Stopped::Output => Fault::Output,
+    }
+}
+
+/// A walk, with the fault for its early end.
+pub(crate) fn reported_walk<T>(walk: Result<T, Stopped>) -> Result<T, Fault>
+    ensures { ReportsWalk walk result }
+{
+    match walk {
+        Ok(found) => Ok(found),
+        Err(stopped) => Err(fault_of(stopped)),
     }
 }

@@ -11,13 +11,16 @@ ghost use Rattle.tb_store.specs.Questions.{IsQuestion};
 ghost use Rattle.tb_store.specs.Represents.{Represents};
 
 use crate::desk::Desk;
-use crate::{exporting, finding};
+use crate::exporting;
+use crate::finding::within;
+use crate::stopping::reported_walk;
 use sqlite::Alter;
 use tb_conllu::Sink;
 use tb_core::{Fault, Refusal};
 use tb_match::Strategy;
 use tb_query::{Attr, Query};
 use tb_report::Freq;
+use tb_search::{count_released, export_released, number_released, search_released};
 
 impl<S: Alter> Desk<S> {
     /// Puts the text of all released sentences, by number: the current revision of each, as it is stored. One sentence is in
@@ -36,7 +39,7 @@ impl<S: Alter> Desk<S> {
         ensures output { result ≡ Err Fault.Output → HasReason (W.IsRefusal out.new) }
         ensures question { IsQuestion S.Store self.old self.new result }
     {
-        exporting::released(self.alloc, &mut self.conn, out)
+        reported_walk(export_released(self.alloc, &mut self.conn, out))
     }
 
     /// Puts the text of all sentences of the batch with this name, pulled ones too, as `export_released` does.
@@ -74,13 +77,9 @@ impl<S: Alter> Desk<S> {
         ensures output { result ≢ Err Fault.Output }
         ensures question { IsQuestion S.Store self.old self.new result }
     {
-        finding::number(
-            self.alloc,
-            &mut self.conn,
-            query,
-            strategy,
-            self.limits.hits,
-        )
+        let walk = number_released(self.alloc, &mut self.conn, query, strategy);
+        let number = reported_walk(walk)?;
+        within(strategy, self.limits.hits, number)
     }
 
     /// Writes a keyword line for each hit of the query in released text, with `context` words on each side, then the line
@@ -110,7 +109,8 @@ impl<S: Alter> Desk<S> {
         ensures output { result ≡ Err Fault.Output → HasReason (W.IsRefusal out.new) }
         ensures question { IsQuestion S.Store self.old self.new result }
     {
-        finding::search(self.alloc, &mut self.conn, query, strategy, context, out)
+        let walk = search_released(self.alloc, &mut self.conn, query, strategy, context, out);
+        reported_walk(walk)
     }
 
     /// The frequency table of the hits of the query in released text, by their values in one column.
@@ -124,6 +124,7 @@ impl<S: Alter> Desk<S> {
         ensures output { result ≢ Err Fault.Output }
         ensures question { IsQuestion S.Store self.old self.new result }
     {
-        finding::count(self.alloc, &mut self.conn, query, strategy, column)
+        let walk = count_released(self.alloc, &mut self.conn, query, strategy, column);
+        reported_walk(walk)
     }
 }
