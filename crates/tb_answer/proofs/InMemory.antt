@@ -16,9 +16,13 @@ use Rattle.tb_answer.specs.Calls.{CallText, commands, asks, call_asked, ForgetsN
 use Rattle.tb_answer.specs.Served.{IsSafeCall, IsSafeOf}
 use Rattle.tb_answer.specs.declared.answering.Broken.{Broken}
 use Rattle.tb_answer.specs.declared.answering.Broken.TheVariants.{Write}
-use Rattle.tb_answer.specs.Turns.{Lead, IsSound, IsAnswered, AreAnswered, AreServed}
+use Rattle.tb_answer.specs.Turns.{Lead, AllButLast, IsSound, IsAnswered, AreAnswered, AreServed, CrashesToAnEnd}
 use Rattle.tb_answer.proofs.Chained.{after_request}
 use Rattle.tb_answer.proofs.Surviving.{request_survives}
+
+but_last : {X : Type 0} (P : X → Type 0) (xs : List X) → AllByRecursion P xs → AllButLast P xs
+but_last P [] all = tt
+but_last P (x ∷ xs) all = ((λ _. all.0), but_last P xs all.1)
 
 module _ {S : Type 0} (g : Ghosts S) where
   -- ---- what is not forgotten
@@ -71,6 +75,10 @@ module _ {S : Type 0} (g : Ghosts S) where
         → HasCleanDisk (state g e.conn) → HasNoNewFault g d e → (s : Machine) → Represents g d s
         → (t : Machine) × Represents g e t × Lead held is_refusal d.limits bs s t u v result
     all_lead_to bs d e u v result served clean few s stands = served.2 (all_sound bs d e u v served.0 result served.1 clean few s stands) s stands
+
+    pub all_crash_to : (bs : List (List ℕ)) (d e : Kept S) (u v : W) (result : Result (Unit {0}) Broken) → AreServed held is_refusal g bs d e u v result
+        → HasCleanDisk (state g e.conn) → HasNoNewFault g d e → CrashesToAnEnd held is_refusal g bs d e
+    all_crash_to bs d e u v result served clean few s stands = served.3 (but_last (IsSound g) served.0 (all_sound bs d e u v served.0 result served.1 clean few s stands)) s stands
 
 pub all_lead_in_memory : {W Reason : Type 0} (held : W → Option (List ℕ)) (is_refusal : W → Reason → Type 0) (bs : List (List ℕ)) (d e : Kept MemStore) (u v : W) (result : Result (Unit {0}) Broken)
     → AreServed held is_refusal over_memory bs d e u v result → (s : Machine) → Represents over_memory d s

@@ -20,7 +20,7 @@ pub use Rattle.tb_core.specs.declared.refusals.Refusal.{Refusal as AnyRefusal}
 pub use Rattle.tb_tables.specs.Leaving.{CommitsNothing}
 pub use Rattle.tb_report.specs.Csv.{freq_csv, moves_csv}
 pub use Rattle.tb_report.specs.Tables.{IsRankingOf, IsTableOf, Row, total_of}
-pub use Rattle.tb_report.specs.Trees.{trees_page}
+pub use Rattle.tb_assets.specs.Trees.{trees_page}
 pub use Rattle.tb_search.specs.Searched.{keys, Occurrence}
 pub use Rattle.tb_search.specs.Visited.{HasReason}
 pub use Rattle.tb_lists.specs.Batches.{batch_lines}

@@ -13,7 +13,7 @@ use Rattle.tb_lists.specs.Csv.{batches_csv, found_csv, revisions_csv, sentences_
 use Rattle.tb_lists.specs.Found.{FoundText, IsFound}
 use Rattle.tb_lists.specs.Revisions.{RevisionText, AreRevisions}
 use Rattle.tb_lists.specs.Sentences.{SentenceText, AreSentences}
-use Rattle.tb_report.specs.Trees.{trees_page}
+use Rattle.tb_assets.specs.Trees.{trees_page}
 use Rattle.tb_store.specs.Answers.{HasNoSentence, IsCurrent, RefusesId}
 use Rattle.tb_store.specs.Exports.{RefusesBatch}
 use Rattle.tb_answer.specs.Commanded.{IsFailure}

@@ -5,7 +5,7 @@ ghost use Rattle.tb_answer.specs.Prelude.{BlockText, CheckReply, HasCleanDisk, I
 ghost use Rattle.tb_answer.specs.Prelude.{over_memory, state, words_in};
 ghost use Rattle.tb_check.specs.declared.reply.CheckReply.TheVariants.{Counts, Memory};
 ghost use Rattle.tb_answer.specs.Calls.{HasNoNewFault};
-ghost use Rattle.tb_answer.specs.Turns.{AreServed, LeadOn};
+ghost use Rattle.tb_answer.specs.Turns.{AreServed, CrashesToAnEnd, LeadOn};
 
 use sqlite::Alter;
 use tb_check::valid_sentences_are_counted;
@@ -19,6 +19,17 @@ pub fn requests_lead_on<S: Alter, W: Sink>()
         → AreServed W.held W.IsRefusal S.Store bs d e u v result
         → HasCleanDisk (state S.Store e.conn) → HasNoNewFault S.Store d e
         → LeadOn W.held W.IsRefusal S.Store bs d e u v result }
+{}
+
+/// A crash after requests that are answered in turn leaves what it could leave before them, or the tables of a state to
+/// which some of them lead.
+///
+/// The disk has to be clean at their end, without a fault since their begin. Nothing is asked of the desks between them.
+pub fn requests_crash_to_an_end<S: Alter, W: Sink>()
+    ensures { (bs : List (List ℕ)) (d e : Kept S) (u v : _) (result : _)
+        → AreServed W.held W.IsRefusal S.Store bs d e u v result
+        → HasCleanDisk (state S.Store e.conn) → HasNoNewFault S.Store d e
+        → CrashesToAnEnd W.held W.IsRefusal S.Store bs d e }
 {}
 
 /// On a desk in memory, requests that are answered in turn lead from the state that it represented to one that it

@@ -34,7 +34,10 @@ pub use counts::{respond_count, run_count};
 pub use ending::Ending;
 pub use exports::{respond_export, run_export};
 pub use finding::{Count, Search};
-pub use laws::{requests_in_memory_lead_on, requests_lead_on, the_check_counts_what_is_taken};
+pub use laws::{
+    requests_crash_to_an_end, requests_in_memory_lead_on, requests_lead_on,
+    the_check_counts_what_is_taken,
+};
 pub use lines::{read_body, run_line, run_line_from, run_line_reported};
 pub use numbered::numbered_sentences;
 pub use output::{put_body, put_reply, put_text};

@@ -16,10 +16,10 @@ use crate::listed::text_or_reply;
 use crate::questions::Question;
 use sqlite::Alter;
 use std::alloc::Global;
+use tb_assets::trees_page;
 use tb_cli::ViewList;
 use tb_core::{Fault, Refusal};
 use tb_http::Reply;
-use tb_report::trees_page;
 use tb_store::{Current, Desk};
 
 /// The batches by number, each with its state, its worker and its counts. It is never refused.

@@ -54,10 +54,10 @@ module _ {R Why Reason : Type 0} (is_failure : R → Why → Type 0) (unread : R
   line_untold said (made_in path) (inr made) = inr made
   line_untold said (migrated_in path) (inl refused) = inl (refused.0, refused.1, tt)
   line_untold said (migrated_in path) (inr migrated) = inr migrated
-  line_untold said (in_file path) (inl refused) = inl (refused.0, refused.1, tt)
+  line_untold said (in_file path) (inl refused) = inl ((refused.0.0, refused.0.1, tt), refused.1)
   line_untold said (in_file path) (inr (inl served)) = inr (inl (served.0, served.1, file_untold is_refusal status is_told held holds served.0 served.2))
   line_untold said (in_file path) (inr (inr ran)) = inr (inr ran)
-  line_untold said in_memory (inl wants) = inl (wants.0, tt)
+  line_untold said in_memory (inl wants) = inl ((wants.0.0, tt), wants.1)
   line_untold said in_memory (inr (inl served)) = inr (inl (served.0, served.1, served_untold is_refusal status is_told held holds served.0 served.2))
   line_untold said in_memory (inr (inr ran)) = inr (inr ran)
 

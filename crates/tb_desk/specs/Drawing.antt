@@ -6,7 +6,7 @@ use Rattle.tb_check.specs.declared.input.Input.{Input}
 use Rattle.tb_check.specs.declared.input.Input.TheVariants as input
 use Rattle.tb_check.specs.declared.reply.CheckReply.{CheckReply}
 use Rattle.tb_check.specs.declared.reply.CheckReply.TheVariants as check
-use Rattle.tb_report.specs.Trees.{trees_page}
+use Rattle.tb_assets.specs.Trees.{trees_page}
 use Rattle.tb_answer.specs.Output.{IsWritten}
 
 -- the check accepts the file, and this is the page of its trees

@@ -1,6 +1,6 @@
 -- How a command line ends: what is written, the exit status, and what was taken of the input. What a server answers
 -- is said request by request.
-use Rattle.std.specs.Prelude.{◌≡◌, ◌≢◌, ◌⊎◌, ℕ, List, codes, true, false, Option, Some, None, Err}
+use Rattle.std.specs.Prelude.{◌≡◌, ◌≢◌, ◌⊎◌, ℕ, List, codes, true, false, Option, Some, None, Result, Err}
 use Rattle.sqlite_trees.specs.declared.memory.MemStore.{MemStore}
 use Rattle.sqlite.specs.Store.{Ghosts}
 use Rattle.sqlite.specs.Files.{over_files}
@@ -13,8 +13,9 @@ use Rattle.tb_cli.specs.declared.lines.Line.{Line}
 use Rattle.tb_cli.specs.Tree.{desk_app}
 use Rattle.tb_store.specs.Kept.{Kept}
 use Rattle.tb_answer.specs.Output.{IsWritten}
-use Rattle.tb_answer.specs.Taken.{WithTaken, has_body}
+use Rattle.tb_answer.specs.Taken.{IsTaken, WithTaken, has_body}
 use Rattle.tb_host.specs.Opened.{IsEmptyDesk, IsMadeDesk, IsSomeDesk}
+use Rattle.tb_http.specs.declared.replies.Reply.{Reply}
 use Rattle.tb_desk.specs.Replies.{AreNoLine, IsFileRefused, IsOutOfMemory}
 use Rattle.tb_desk.specs.Running.{IsRunOn}
 use Rattle.tb_desk.specs.Served.{IsServed, IsServedInFile, WithService, service_of}
@@ -25,6 +26,12 @@ use Rattle.tb_desk.specs.Targets.{Place, made_in, migrated_in, in_file, in_memor
 -- a line without a body leaves the input as it was
 abbrev pub LeavesInput : {R : Type 0} → (before after : R) → Said → Type 0
 LeavesInput before after said = has_body said ≡ false → after ≡ before
+
+-- where no desk is opened for a line: nothing is taken of the input, or its body, or what came in the body's place
+abbrev pub TakesNoneOrBody : {R Why : Type 0} → (R → Why → Type 0) → (R → Option (List ℕ)) → (before after : R) → Said
+    → Type 0
+TakesNoneOrBody is_failure unread before after said =
+    (after ≡ before) ⊎ ((taken : Result (List ℕ) Reply) × IsTaken is_failure unread file_limit said before after taken)
 
 module _ {Reason : Type 0} (held holds : Option (List ℕ)) (is_refusal : Reason → Type 0) (status : ℕ) where
   -- a desk without a batch was made in the file, and `made` is written
@@ -74,15 +81,16 @@ module _ {R Why Reason : Type 0} (is_failure : R → Why → Type 0) (unread : R
 module _ {R Why Reason : Type 0} (is_failure : R → Why → Type 0) (unread : R → Option (List ℕ)) (before after : R)
     (held holds : Option (List ℕ)) (is_refusal : Reason → Type 0) (status : ℕ) (is_told : Option Cause → Type 0) where
   -- How a line ends, by what it works on. In a file a desk is made or migrated, or the desk there is served or the line
-  -- runs on it, or the line for the cause at the file is written. Without a file a desk without a batch is served, or
-  -- the line runs on it, or memory runs out for that.
+  -- runs on it. Or the line for the cause at the file is written, and nothing or the body was taken. Without a file a
+  -- desk without a batch is served, or the line runs on it. Or memory runs out for that, and nothing was taken.
   abbrev pub IsLineRun : Said → Place → Type 0
   IsLineRun said (made_in path) = IsMadeOrRefused held holds is_refusal status is_told
   IsLineRun said (migrated_in path) = IsMigratedOrRefused held holds is_refusal status is_told
-  IsLineRun said (in_file path) = IsFileRefused held holds is_refusal status is_told
+  IsLineRun said (in_file path) =
+      (IsFileRefused held holds is_refusal status is_told × TakesNoneOrBody is_failure unread before after said)
       ⊎ WithService said (IsServedInFile held holds is_refusal status is_told)
       ⊎ IsRunInFile is_failure unread before after held holds is_refusal status said
-  IsLineRun said in_memory = IsOutOfMemory held holds is_refusal status is_told
+  IsLineRun said in_memory = (IsOutOfMemory held holds is_refusal status is_told × (after ≡ before))
       ⊎ WithService said (IsServed held holds is_refusal status is_told)
       ⊎ IsRunInMemory is_failure unread before after held holds is_refusal status said
 

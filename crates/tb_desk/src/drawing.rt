@@ -4,15 +4,15 @@ ghost use Rattle.std.specs.Prelude.{◌≡◌, ◌≤◌, IfErr, IfOk, length};
 ghost use Rattle.tb_check.specs.Check.{file_limit};
 ghost use Rattle.tb_check.specs.Input.{IsWithin};
 ghost use Rattle.tb_desk.specs.Drawing.{AreTreesDrawn, IsDrawingWritten, IsDrawn, IsDrawnFile, IsUndrawn, IsUndrawnFile};
-ghost use Rattle.tb_report.specs.Trees.{trees_page};
+ghost use Rattle.tb_assets.specs.Trees.{trees_page};
 
 use crate::checking::{put_check, reported_of_check};
 use std::alloc::Global;
 use tb_answer::put_body;
+use tb_assets::trees_page;
 use tb_check::{CheckReply, FILE_LIMIT, Input, check_file, read_all};
 use tb_conllu::{Sink, Source};
 use tb_host::{Outcome, wants_words};
-use tb_report::trees_page;
 
 /// The page of the trees of these sentences.
 fn page_of(alloc: Global, conllu: &[u8]) -> Result<Vec<u8>, CheckReply>

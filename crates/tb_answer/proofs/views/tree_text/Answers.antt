@@ -1,5 +1,5 @@
 use Rattle.std.proofs.Common.{◌≡◌, subst}
-use Rattle.tb_report.specs.Trees.{trees_page}
+use Rattle.tb_assets.specs.Trees.{trees_page}
 use Rattle.tb_answer.proofs.views.tree_text.Goals as goal
 
 pub returns-in-Ok-clause-text : goal.returns-in-Ok-clause-text

@@ -1,4 +1,4 @@
-use Rattle.std.proofs.Common.{ℕ, List, Result, inl, inr}
+use Rattle.std.proofs.Common.{ℕ, List, Result, inl, inr, refl}
 use Rattle.tb_check.specs.Check.{file_limit}
 use Rattle.tb_http.specs.declared.replies.Reply.{Reply}
 use Rattle.tb_cli.specs.Lines.{said_by}
@@ -6,6 +6,9 @@ use Rattle.tb_answer.specs.Taken.{IsTaken}
 use Rattle.tb_desk.specs.Running.{taken_of}
 use Rattle.tb_desk.proofs.Ran.{input_left, taken_so}
 use Rattle.tb_desk.proofs.running.run_in_memory.Goals as goal
+
+pub returns-in-Err-clause-ended : goal.returns-in-Err-clause-ended
+returns-in-Err-clause-ended g c = inl ((c.put_memory.ensures.written, c.put_memory.ensures.reported), refl)
 
 pub returns-in-Ok-clause-ended : goal.returns-in-Ok-clause-ended
 returns-in-Ok-clause-ended g c =

@@ -1,4 +1,4 @@
-use Rattle.std.proofs.Common.{ℕ, List, Result, inl, inr}
+use Rattle.std.proofs.Common.{ℕ, List, Result, inl, inr, refl}
 use Rattle.tb_check.specs.Check.{file_limit}
 use Rattle.tb_http.specs.declared.replies.Reply.{Reply}
 use Rattle.tb_cli.specs.Lines.{said_by}
@@ -6,6 +6,18 @@ use Rattle.tb_answer.specs.Taken.{IsTaken}
 use Rattle.tb_desk.specs.Running.{taken_of}
 use Rattle.tb_desk.proofs.Ran.{input_left, taken_so}
 use Rattle.tb_desk.proofs.running.run_on_file.Goals as goal
+
+pub returns-in-Err-clause-ended : goal.returns-in-Err-clause-ended
+returns-in-Err-clause-ended g c =
+    inl ((c.in-Err.cause, c.put_file_cause.ensures.written, c.put_file_cause.ensures.reported), inl refl)
+
+pub returns-clause-ended : goal.returns-clause-ended
+returns-clause-ended g c =
+    let taken : Result (List ℕ) Reply → Type 0 = λ t. IsTaken g.R.Source.IsFailure g.R.Source.left file_limit (said_by c.args.line.now) c.args.reader.now c.read_body-body.new.reader t in
+    inl (
+      (c.in-Err-open.cause, c.put_file_cause-in-Err-open.ensures.written, c.put_file_cause-in-Err-open.ensures.reported),
+      inr (taken_of (λ v. v.items) c.read_body-body.result, taken_so (λ v. v.items) c.read_body-body.result taken c.read_body-body.ensures.taken),
+    )
 
 pub returns-in-Ok-clause-ended : goal.returns-in-Ok-clause-ended
 returns-in-Ok-clause-ended g c =
