@@ -6,11 +6,21 @@ use Rattle.clap.specs.declared.builder.arg.Arg.{Arg}
 use Rattle.tb_cli.specs.Tree.{default_rule, needed_rule, option_rule, optional_rule, word_rule}
 use Rattle.tb_cli.specs.declared.arguments.Argument.{Argument}
 use Rattle.tb_cli.specs.declared.arguments.Argument.TheVariants as argument
+use Rattle.tb_cli.specs.declared.arguments.Form.{Form}
+use Rattle.tb_cli.specs.declared.arguments.Form.TheVariants as form
 use Rattle.tb_cli.specs.declared.hints.TheConstants as hint
 
 -- the help of an argument is this text
 abbrev pub HasHelp : Text → Arg → Type 0
 HasHelp text arg = option_map (λ t. t.now) arg.help ≡ Some text
+
+-- the rule of an argument of this form and name
+abbrev pub rule_in : Form → Text → Rule
+rule_in form.Option name = option_rule name
+rule_in form.Needed name = needed_rule name
+rule_in (form.Default value) name = default_rule name value.now
+rule_in form.Word name = word_rule name
+rule_in form.Optional name = optional_rule name
 
 -- the word of an argument, and whether it is required
 abbrev pub argument_rule : Argument → Rule

@@ -1,7 +1,7 @@
 //! The arguments of the commands, declared to clap.
 
-ghost use Rattle.tb_cli.specs.Arguments.{argument_help, argument_rule, HasHelp};
-ghost use Rattle.tb_cli.specs.Tree.{option_rule, needed_rule, default_rule, word_rule, optional_rule, HasRule};
+ghost use Rattle.tb_cli.specs.Arguments.{argument_help, argument_rule, rule_in, HasHelp};
+ghost use Rattle.tb_cli.specs.Tree.{HasRule};
 
 use crate::hints;
 use clap::Arg;
@@ -56,47 +56,34 @@ pub(crate) enum Argument {
     Most,
 }
 
-/// An option that takes a value.
-fn option<'a>(alloc: Global, name: &'a str, help: &'a str) -> Arg<'a>
-    ensures rule { HasRule (option_rule name.entry.now) result }
-    ensures help { HasHelp help.entry.now result }
-{
-    Arg::new(alloc, name).long(name).help(help)
+/// How an argument is given.
+#[derive(Clone, Copy)]
+pub(crate) enum Form<'a> {
+    /// By an option that takes a value.
+    Option,
+    /// By an option that is required.
+    Needed,
+    /// By an option with a default.
+    Default(&'a str),
+    /// By a word that is required.
+    Word,
+    /// By a word that may be missing.
+    Optional,
 }
 
-/// An option that is required.
-fn needed<'a>(alloc: Global, name: &'a str, help: &'a str) -> Arg<'a>
-    ensures rule { HasRule (needed_rule name.entry.now) result }
+/// An argument of this form and name, with its help.
+fn arg_in<'a>(alloc: Global, form: Form<'a>, name: &'a str, help: &'a str) -> Arg<'a>
+    ensures rule { HasRule (rule_in form.entry name.entry.now) result }
     ensures help { HasHelp help.entry.now result }
 {
-    Arg::new(alloc, name).long(name).required(true).help(help)
-}
-
-/// An option with a default.
-fn defaulted<'a>(alloc: Global, name: &'a str, value: &'a str, help: &'a str) -> Arg<'a>
-    ensures rule { HasRule (default_rule name.entry.now value.entry.now) result }
-    ensures help { HasHelp help.entry.now result }
-{
-    Arg::new(alloc, name)
-        .long(name)
-        .default_value(value)
-        .help(help)
-}
-
-/// A word that is required.
-fn word<'a>(alloc: Global, name: &'a str, help: &'a str) -> Arg<'a>
-    ensures rule { HasRule (word_rule name.entry.now) result }
-    ensures help { HasHelp help.entry.now result }
-{
-    Arg::new(alloc, name).required(true).help(help)
-}
-
-/// A word that may be missing.
-fn optional<'a>(alloc: Global, name: &'a str, help: &'a str) -> Arg<'a>
-    ensures rule { HasRule (optional_rule name.entry.now) result }
-    ensures help { HasHelp help.entry.now result }
-{
-    Arg::new(alloc, name).help(help)
+    let arg = Arg::new(alloc, name);
+    match form {
+        Form::Option => arg.long(name).help(help),
+        Form::Needed => arg.long(name).required(true).help(help),
+        Form::Default(value) => arg.long(name).default_value(value).help(help),
+        Form::Word => arg.required(true).help(help),
+        Form::Optional => arg.help(help),
+    }
 }
 
 /// An argument with its help.
@@ -105,27 +92,32 @@ pub(crate) fn arg_of<'a>(alloc: Global, which: Argument) -> Arg<'a>
     ensures help { HasHelp (argument_help which) result }
 {
     match which {
-        Argument::Desk => option(alloc, "db", hints::DESK),
-        Argument::DeskNeeded => needed(alloc, "db", hints::DESK_NEEDED),
-        Argument::DeskShown => option(alloc, "db", hints::DESK_SHOWN),
-        Argument::DeskDrawn => option(alloc, "db", hints::DESK_DRAWN),
-        Argument::User => needed(alloc, "user", hints::USER),
-        Argument::Strategy => defaulted(alloc, "strategy", "longest", hints::STRATEGY),
-        Argument::Batch => word(alloc, "name", hints::BATCH),
-        Argument::BatchNew => word(alloc, "name", hints::BATCH_NEW),
-        Argument::BatchIfAny => optional(alloc, "name", hints::BATCH_IF_ANY),
-        Argument::Step => word(alloc, "event", hints::STEP),
-        Argument::Sentence => word(alloc, "no", hints::SENTENCE),
-        Argument::SentenceDrawn => optional(alloc, "no", hints::SENTENCE_DRAWN),
-        Argument::SentId => word(alloc, "sent_id", hints::SENT_ID),
-        Argument::Base => word(alloc, "base", hints::BASE),
-        Argument::Revision => option(alloc, "rev", hints::REVISION),
-        Argument::Query => word(alloc, "query", hints::QUERY),
-        Argument::Context => defaulted(alloc, "context", "5", hints::CONTEXT),
-        Argument::Attribute => word(alloc, "attribute", hints::ATTRIBUTE),
-        Argument::Port => needed(alloc, "port", hints::PORT),
-        Argument::PortShown => needed(alloc, "port", hints::PORT_SHOWN),
-        Argument::Requests => defaulted(alloc, "requests", "1000000000", hints::REQUESTS),
-        Argument::Most => defaulted(alloc, "most", "100", hints::MOST),
+        Argument::Desk => arg_in(alloc, Form::Option, "db", hints::DESK),
+        Argument::DeskNeeded => arg_in(alloc, Form::Needed, "db", hints::DESK_NEEDED),
+        Argument::DeskShown => arg_in(alloc, Form::Option, "db", hints::DESK_SHOWN),
+        Argument::DeskDrawn => arg_in(alloc, Form::Option, "db", hints::DESK_DRAWN),
+        Argument::User => arg_in(alloc, Form::Needed, "user", hints::USER),
+        Argument::Strategy => arg_in(alloc, Form::Default("longest"), "strategy", hints::STRATEGY),
+        Argument::Batch => arg_in(alloc, Form::Word, "name", hints::BATCH),
+        Argument::BatchNew => arg_in(alloc, Form::Word, "name", hints::BATCH_NEW),
+        Argument::BatchIfAny => arg_in(alloc, Form::Optional, "name", hints::BATCH_IF_ANY),
+        Argument::Step => arg_in(alloc, Form::Word, "event", hints::STEP),
+        Argument::Sentence => arg_in(alloc, Form::Word, "no", hints::SENTENCE),
+        Argument::SentenceDrawn => arg_in(alloc, Form::Optional, "no", hints::SENTENCE_DRAWN),
+        Argument::SentId => arg_in(alloc, Form::Word, "sent_id", hints::SENT_ID),
+        Argument::Base => arg_in(alloc, Form::Word, "base", hints::BASE),
+        Argument::Revision => arg_in(alloc, Form::Option, "rev", hints::REVISION),
+        Argument::Query => arg_in(alloc, Form::Word, "query", hints::QUERY),
+        Argument::Context => arg_in(alloc, Form::Default("5"), "context", hints::CONTEXT),
+        Argument::Attribute => arg_in(alloc, Form::Word, "attribute", hints::ATTRIBUTE),
+        Argument::Port => arg_in(alloc, Form::Needed, "port", hints::PORT),
+        Argument::PortShown => arg_in(alloc, Form::Needed, "port", hints::PORT_SHOWN),
+        Argument::Requests => arg_in(
+            alloc,
+            Form::Default("1000000000"),
+            "requests",
+            hints::REQUESTS,
+        ),
+        Argument::Most => arg_in(alloc, Form::Default("100"), "most", hints::MOST),
     }
 }

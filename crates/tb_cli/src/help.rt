@@ -6,8 +6,24 @@ ghost use Rattle.tb_cli.specs.Help.{about_text, ending_text};
 use crate::verbs::Verb;
 use crate::{abouts, endings};
 
+/// The text of help after the list of commands: examples and notes, and the exit statuses.
+macro_rules! program_ending {
+    ($notes:literal, $refused:literal) => {
+        concat!(
+            $notes,
+            "\n\nExit status:\n  0  done; help and the version too\n  1  ",
+            $refused,
+            "\n  2  wrong words on the command line\n  3  out of memory, or an I/O error\n\nEnvironment:\n  \
+             TREEDESK_EXPLAIN=1  explain each refusal on standard error, also where that is no terminal"
+        )
+    };
+}
+
+pub(crate) use program_ending;
+
 /// The text of help after the list of commands.
-pub const ENDING: &str = "\
+pub const ENDING: &str = program_ending!(
+    "\
 Examples:
   treedesk check < news.conllu
   treedesk new --db desk.db
@@ -15,16 +31,9 @@ Examples:
   treedesk search --db desk.db '[upos=\"ADJ\"] [lemma=\"book\"]'
 
 Every command but check, new and migrate works on a desk in memory unless --db names a file.
-`treedesk help COMMAND` shows what a command takes and prints, with an example.
-
-Exit status:
-  0  done; help and the version too
-  1  refused; nothing was changed
-  2  wrong words on the command line
-  3  out of memory, or an I/O error
-
-Environment:
-  TREEDESK_EXPLAIN=1  explain each refusal on standard error, also where that is no terminal";
+`treedesk help COMMAND` shows what a command takes and prints, with an example.",
+    "refused; nothing was changed"
+);
 
 /// What the whole program does.
 pub(crate) const ABOUT: &str =

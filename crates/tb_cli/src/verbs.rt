@@ -73,41 +73,22 @@ pub(crate) fn is_word(text: &str, word: &str) -> bool
     text == word
 }
 
+/// The one of these commands whose word is the name, if there is one.
+macro_rules! named {
+    ($name:ident, $($verb:ident)+) => {{
+        $(if is_word($name, word_of(Verb::$verb)) {
+            return Some(Verb::$verb);
+        })+
+        None
+    }};
+}
+
 /// The command with that word.
 pub fn verb_of(name: &str) -> Option<Verb>
     ensures { result ≡ verb_of name.now }
 {
-    if is_word(name, "check") {
-        Some(Verb::Check)
-    } else if is_word(name, "new") {
-        Some(Verb::New)
-    } else if is_word(name, "migrate") {
-        Some(Verb::Migrate)
-    } else if is_word(name, "import") {
-        Some(Verb::Import)
-    } else if is_word(name, "event") {
-        Some(Verb::Event)
-    } else if is_word(name, "correct") {
-        Some(Verb::Correct)
-    } else if is_word(name, "pull") {
-        Some(Verb::Pull)
-    } else if is_word(name, "restore") {
-        Some(Verb::Restore)
-    } else if is_word(name, "show") {
-        Some(Verb::Show)
-    } else if is_word(name, "export") {
-        Some(Verb::Export)
-    } else if is_word(name, "totals") {
-        Some(Verb::Totals)
-    } else if is_word(name, "moves") {
-        Some(Verb::Moves)
-    } else if is_word(name, "search") {
-        Some(Verb::Search)
-    } else if is_word(name, "count") {
-        Some(Verb::Count)
-    } else if is_word(name, "serve") {
-        Some(Verb::Serve)
-    } else {
-        None
-    }
+    named!(
+        name,
+        Check New Migrate Import Event Correct Pull Restore Show Export Totals Moves Search Count Serve
+    )
 }

@@ -3,11 +3,13 @@
 ghost use Rattle.std.specs.Prelude.{◌≡◌};
 ghost use Rattle.tb_cli.specs.Help.{view_about_text, view_ending_text};
 
+use crate::help::program_ending;
 use crate::view_verbs::ViewVerb;
 use crate::{view_abouts, view_endings};
 
 /// The text of help after the list of commands.
-pub const ENDING: &str = "\
+pub const ENDING: &str = program_ending!(
+    "\
 Examples:
   deskview batches --db desk.db
   deskview sentences --db desk.db news
@@ -21,16 +23,9 @@ Examples:
 `check` reads a file on standard input, `tree` without --db too, and each other command the desk in the file that --db
 names. `page` shows the desk in a browser until you end the program, and `tree` prints a page for a browser. The others
 print a list as CSV. All but `page` change nothing of the desk. `deskview help COMMAND` shows what a command takes and
-prints, with an example.
-
-Exit status:
-  0  done; help and the version too
-  1  refused; a file that `check` finds at fault too
-  2  wrong words on the command line
-  3  out of memory, or an I/O error
-
-Environment:
-  TREEDESK_EXPLAIN=1  explain each refusal on standard error, also where that is no terminal";
+prints, with an example.",
+    "refused; a file that `check` finds at fault too"
+);
 
 /// What deskview does.
 pub(crate) const ABOUT: &str =

@@ -1,5 +1,5 @@
 -- What holds while a body is read.
-use Rattle.std.proofs.Common.{◌≡◌, ◌≤◌, ◌+◌, ◌<◌, ℕ, List, [], ◌++◌, length, take, Option, Some, None, IfSome, sym, ◌∙◌, ap, subst, append_assoc, length-append, take_at, arith, rules}
+use Rattle.std.proofs.Common.{◌≡◌, ◌≤◌, ◌+◌, ◌<◌, ℕ, List, [], ◌++◌, length, take, Option, Some, None, IfSome, refl, sym, ◌∙◌, ap, subst, append_assoc, append-nil, length-append, take_at, arith, rules}
 use Rattle.std.proofs.lemmas.List.{places}
 use Rattle.std.specs.Io.KnownBytes.{Consumes, Keeps, IsAtEnd, prepend_known}
 use Rattle.std.proofs.KnownBytes.{Consumes-kept, Consumes-nil, Consumes-trans, Consumes-whole}
@@ -10,6 +10,14 @@ pub record IsTaking (old new : Option (List ℕ)) (start body : List ℕ) (n : �
   pub within : length body ≤ n
   pub taken : Consumes (prepend_known start old) new body
   pub came : (more : List ℕ) × (body ≡ start ++ more) × Consumes old new more
+
+start_taken : (old : Option (List ℕ)) (start : List ℕ) → Consumes (prepend_known start old) old start
+start_taken None start = tt
+start_taken (Some x) start = refl
+
+-- nothing was read yet
+pub taking_first : (old : Option (List ℕ)) (start : List ℕ) (n : ℕ) → length start ≤ n → IsTaking old old start start n
+taking_first old start n few = record { within = few; taken = start_taken old start; came = ([], sym (append-nil start), Consumes-nil old) }
 
 -- a read failed before the body was whole
 pub taking_broken : (old mid new : Option (List ℕ)) (start body : List ℕ) (n : ℕ) → IsTaking old mid start body n → Keeps mid new → length body < n

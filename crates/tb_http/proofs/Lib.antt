@@ -1,5 +1,6 @@
 pub mod Bodies
 pub mod Chains
+pub mod Handed
 pub mod Numbers
 pub mod Parsed
 pub mod Reading

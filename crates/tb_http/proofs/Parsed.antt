@@ -29,8 +29,9 @@ digits_read t r least l one most m two all p =
     let small : digits_value 10 t < 10 ^ 10 = digits_value_short own t 10 all short in
     ap result_ok (parse_gives own 64 t r p all some (omega (arith, small)))
 
-pub number_read : {E : Type 0} (t : List ℕ) (r : Result ℕ E) → is_number t ≡ true → ParsesUnsigned 64 10 t r → result_ok r ≡ number_of t
-number_read t r h p =
+-- a number of a sentence is a number of requests
+pub number_is_numeral : (t : List ℕ) → is_number t ≡ true → requests_of t ≡ number_of t
+number_is_numeral t h =
     let digits : Bool = list_all is_ascii_digit t in
     let first : Bool = nat_lt 48 (slice_index t 0) in
     let least : Bool = nat_lt 0 (length t) in
@@ -38,8 +39,8 @@ number_read t r h p =
     let one = both least (most && (first && digits)) h in
     let two = both most (first && digits) one.1 in
     let three = both first digits two.1 in
-    digits_read t r least refl one.0 most refl two.0 three.1 p
-    ∙ ap (λ b. cond b (Some (digits_value 10 t)) None) (sym h)
+    let numeral : (least && (most && digits)) ≡ true = rw (one.0, two.0, three.1) refl in
+    ap (λ b. cond b (Some (digits_value 10 t)) None) (numeral ∙ sym h)
 
 pub numeral_read : {E : Type 0} (t : List ℕ) (r : Result ℕ E) → (nat_lt 0 (length t) && (nat_le (length t) 10 && list_all is_ascii_digit t)) ≡ true → ParsesUnsigned 64 10 t r
     → result_ok r ≡ requests_of t

@@ -6,6 +6,7 @@ pub mod Head
 pub mod Headers
 pub mod Heads
 pub mod Replies
+pub mod Rooms
 pub mod Routes
 pub mod Stage
 pub mod Status

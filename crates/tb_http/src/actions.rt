@@ -2,7 +2,6 @@
 
 ghost use Rattle.std.specs.Prelude.{◌≡◌, option_map, bytes_eq};
 ghost use Rattle.tb_http.specs.Actions.{place_at, place_by, place_of};
-ghost use Rattle.tb_http.specs.declared.routes.Route.TheVariants as route;
 
 use crate::forms::{
     attribute_of, base_of, context_of, event_of, name_of, number_of, segment, strategy_of,
@@ -113,106 +112,14 @@ impl<'b> Resource<'b> {
     }
 }
 
-fn batch(target: &str) -> Option<Resource<'_>>
-    ensures { option_map place_by result ≡ place_at route.Batch target.now }
-{
-    let Some(name) = name_of(segment(target, 2)) else {
-        return None;
-    };
-    Some(Resource::GetAndPost {
-        get: Action::Export { name },
-        post: Action::Import { name },
-    })
-}
-
-fn step(target: &str) -> Option<Resource<'_>>
-    ensures { option_map place_by result ≡ place_at route.Step target.now }
-{
-    let Some(name) = name_of(segment(target, 2)) else {
-        return None;
-    };
-    let Some(event) = event_of(segment(target, 3)) else {
-        return None;
-    };
-    Some(Resource::Post(Action::Step { name, event }))
-}
-
-fn correction(target: &str) -> Option<Resource<'_>>
-    ensures { option_map place_by result ≡ place_at route.Correction target.now }
-{
-    let Some(no) = number_of(segment(target, 2)) else {
-        return None;
-    };
-    let Some(base) = base_of(segment(target, 4)) else {
-        return None;
-    };
-    Some(Resource::Post(Action::Correct { no, base }))
-}
-
-fn sentence(target: &str) -> Option<Resource<'_>>
-    ensures { option_map place_by result ≡ place_at route.Sentence target.now }
-{
-    let Some(no) = number_of(segment(target, 2)) else {
-        return None;
-    };
-    Some(Resource::Get(Action::Sentence { no }))
-}
-
-fn revision(target: &str) -> Option<Resource<'_>>
-    ensures { option_map place_by result ≡ place_at route.Revision target.now }
-{
-    let Some(no) = number_of(segment(target, 2)) else {
-        return None;
-    };
-    let Some(rev) = number_of(segment(target, 3)) else {
-        return None;
-    };
-    Some(Resource::Get(Action::Revision { no, rev }))
-}
-
-fn pull(target: &str) -> Option<Resource<'_>>
-    ensures { option_map place_by result ≡ place_at route.Pull target.now }
-{
-    let Some(no) = number_of(segment(target, 2)) else {
-        return None;
-    };
-    Some(Resource::Post(Action::Pull { no }))
-}
-
-fn restore(target: &str) -> Option<Resource<'_>>
-    ensures { option_map place_by result ≡ place_at route.Restore target.now }
-{
-    let Some(no) = number_of(segment(target, 2)) else {
-        return None;
-    };
-    Some(Resource::Post(Action::Restore { no }))
-}
-
-fn search(target: &str) -> Option<Resource<'_>>
-    ensures { option_map place_by result ≡ place_at route.Search target.now }
-{
-    let Some(strategy) = strategy_of(segment(target, 2)) else {
-        return None;
-    };
-    let Some(context) = context_of(segment(target, 3)) else {
-        return None;
-    };
-    Some(Resource::Post(Action::Search { strategy, context }))
-}
-
-fn count(target: &str) -> Option<Resource<'_>>
-    ensures { option_map place_by result ≡ place_at route.Count target.now }
-{
-    let Some(strategy) = strategy_of(segment(target, 2)) else {
-        return None;
-    };
-    let Some(attribute) = attribute_of(segment(target, 3)) else {
-        return None;
-    };
-    Some(Resource::Post(Action::Count {
-        strategy,
-        attribute,
-    }))
+/// What the values in some segments of a target name, where each of them has its form.
+macro_rules! formed {
+    ($target:ident: $($value:ident = $form:ident $place:literal),+ => $resource:expr) => {{
+        $(let Some($value) = $form(segment($target, $place)) else {
+            return None;
+        };)+
+        Some($resource)
+    }};
 }
 
 /// What a target of this route names, where its segments have their forms.
@@ -220,18 +127,28 @@ fn resource_at(route: Route, target: &str) -> Option<Resource<'_>>
     ensures { option_map place_by result ≡ place_at route target.now }
 {
     match route {
-        Route::Batch => batch(target),
-        Route::Step => step(target),
-        Route::Correction => correction(target),
-        Route::Sentence => sentence(target),
-        Route::Revision => revision(target),
-        Route::Pull => pull(target),
-        Route::Restore => restore(target),
+        Route::Batch => formed!(target: name = name_of 2 => Resource::GetAndPost {
+            get: Action::Export { name },
+            post: Action::Import { name },
+        }),
+        Route::Step => formed!(target: name = name_of 2, event = event_of 3
+            => Resource::Post(Action::Step { name, event })),
+        Route::Correction => formed!(target: no = number_of 2, base = base_of 4
+            => Resource::Post(Action::Correct { no, base })),
+        Route::Sentence =>
+            formed!(target: no = number_of 2 => Resource::Get(Action::Sentence { no })),
+        Route::Revision => formed!(target: no = number_of 2, rev = number_of 3
+            => Resource::Get(Action::Revision { no, rev })),
+        Route::Pull => formed!(target: no = number_of 2 => Resource::Post(Action::Pull { no })),
+        Route::Restore =>
+            formed!(target: no = number_of 2 => Resource::Post(Action::Restore { no })),
         Route::Released => Some(Resource::Get(Action::Released)),
         Route::Totals => Some(Resource::Get(Action::Totals)),
         Route::Moves => Some(Resource::Get(Action::Moves)),
-        Route::Search => search(target),
-        Route::Count => count(target),
+        Route::Search => formed!(target: strategy = strategy_of 2, context = context_of 3
+            => Resource::Post(Action::Search { strategy, context })),
+        Route::Count => formed!(target: strategy = strategy_of 2, attribute = attribute_of 3
+            => Resource::Post(Action::Count { strategy, attribute })),
     }
 }
 

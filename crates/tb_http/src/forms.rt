@@ -82,7 +82,7 @@ pub fn number_of(text: &str) -> Option<u64>
     if !is_number(text.as_bytes()) {
         return None;
     }
-    text.parse::<u64>().ok()
+    requests_of(text)
 }
 
 /// A number as of a sentence, or 0.
@@ -95,35 +95,36 @@ pub fn base_of(text: &str) -> Option<u64>
     number_of(text)
 }
 
+/// The number, if it is no more than a limit of its type.
+macro_rules! at_most {
+    ($number:expr, $limit:literal, $type:ty) => {
+        match $number {
+            Some(number) if number <= $limit => Some(number as $type),
+            _ => None,
+        }
+    };
+}
+
 /// How many words of context to show on each side of a match: 0 to 20, without leading zeros.
 pub fn context_of(text: &str) -> Option<u8>
     ensures value { result ≡ context_of text.now }
     ensures small { IfSome result (λ n. n ≤ 20) }
 {
-    match base_of(text) {
-        Some(number) if number <= 20 => Some(number as u8),
-        _ => None,
-    }
+    at_most!(base_of(text), 20, u8)
 }
 
 /// How many faults to list at most: 1 to 1,000,000, without leading zeros.
 pub fn most_of(text: &str) -> Option<u32>
     ensures { result ≡ most_of text.now }
 {
-    match number_of(text) {
-        Some(number) if number <= 1_000_000 => Some(number as u32),
-        _ => None,
-    }
+    at_most!(number_of(text), 1_000_000, u32)
 }
 
 /// A port: 0 to 65535, without leading zeros.
 pub fn port_of(text: &str) -> Option<u16>
     ensures { result ≡ port_of text.now }
 {
-    match base_of(text) {
-        Some(number) if number <= 65_535 => Some(number as u16),
-        _ => None,
-    }
+    at_most!(base_of(text), 65_535, u16)
 }
 
 /// 1 to 10 digits.
@@ -147,63 +148,46 @@ pub fn requests_of(text: &str) -> Option<u64>
     text.parse::<u64>().ok()
 }
 
+/// The value beside the word that the text is, if there is one.
+macro_rules! by_word {
+    ($text:ident: $($word:expr => $value:expr,)+) => {{
+        $(if is_word($text, $word) {
+            return Some($value);
+        })+
+        None
+    }};
+}
+
 /// The event with this word.
 pub fn event_of(text: &str) -> Option<Event>
     ensures { result ≡ event_of text.now }
 {
-    if is_word(text, Event::Assign.word()) {
-        Some(Event::Assign)
-    } else if is_word(text, Event::Unassign.word()) {
-        Some(Event::Unassign)
-    } else if is_word(text, Event::Submit.word()) {
-        Some(Event::Submit)
-    } else if is_word(text, Event::SendBack.word()) {
-        Some(Event::SendBack)
-    } else if is_word(text, Event::Adjudicate.word()) {
-        Some(Event::Adjudicate)
-    } else if is_word(text, Event::Release.word()) {
-        Some(Event::Release)
-    } else if is_word(text, Event::Withdraw.word()) {
-        Some(Event::Withdraw)
-    } else if is_word(text, Event::Reopen.word()) {
-        Some(Event::Reopen)
-    } else {
-        None
-    }
+    by_word!(text:
+        Event::Assign.word() => Event::Assign,
+        Event::Unassign.word() => Event::Unassign,
+        Event::Submit.word() => Event::Submit,
+        Event::SendBack.word() => Event::SendBack,
+        Event::Adjudicate.word() => Event::Adjudicate,
+        Event::Release.word() => Event::Release,
+        Event::Withdraw.word() => Event::Withdraw,
+        Event::Reopen.word() => Event::Reopen,
+    )
 }
 
 /// The strategy with this word.
 pub fn strategy_of(text: &str) -> Option<Strategy>
     ensures { result ≡ strategy_of text.now }
 {
-    if is_word(text, "shortest") {
-        Some(Strategy::Shortest)
-    } else if is_word(text, "longest") {
-        Some(Strategy::Longest)
-    } else if is_word(text, "every") {
-        Some(Strategy::Every)
-    } else {
-        None
-    }
+    by_word!(text:
+        "shortest" => Strategy::Shortest,
+        "longest" => Strategy::Longest,
+        "every" => Strategy::Every,
+    )
 }
 
 /// The attribute with this name, as queries write it.
 pub fn attribute_of(text: &str) -> Option<Attr>
     ensures { result ≡ attribute_of text.now }
 {
-    if is_word(text, "word") {
-        Some(Attr::Form)
-    } else if is_word(text, "lemma") {
-        Some(Attr::Lemma)
-    } else if is_word(text, "upos") {
-        Some(Attr::Upos)
-    } else if is_word(text, "xpos") {
-        Some(Attr::Xpos)
-    } else if is_word(text, "feats") {
-        Some(Attr::Feats)
-    } else if is_word(text, "deprel") {
-        Some(Attr::Deprel)
-    } else {
-        None
-    }
+    tb_syntax::column(text.as_bytes())
 }

@@ -8,12 +8,13 @@ ghost use Rattle.httparse.specs.Spans.{IsRequestOf, IsRequestWithin};
 ghost use Rattle.tb_conllu.specs.Pieces.{AskedFor};
 ghost use Rattle.tb_http.specs.Faults.{AreTooFew, AwaitsHead, IsBodyFaultOf, TakenAfter};
 ghost use Rattle.tb_http.specs.Head.{HasNoHead};
+ghost use Rattle.tb_http.specs.Rooms.{IsHanded, body_room, head_room};
 ghost use Rattle.tb_http.specs.declared.head.BodyFault.TheVariants.{Read as Broken};
 
+use crate::filling::Filler;
 use httparse::Status;
 use httparse::spans::{HeaderSpan, RequestSpans, parse_request};
 use std::alloc::Global;
-use tb_conllu::Source;
 
 /// The most bytes of a head.
 pub const HEAD_BYTES: usize = 8192;
@@ -34,7 +35,7 @@ pub struct Head {
 }
 
 /// Reads until a head is complete, or until the bytes cannot become one.
-pub fn read_head<R: Source>(
+pub fn read_head<R: Filler>(
     reader: &mut R,
     buf: &mut [u8],
     headers: &mut [HeaderSpan],
@@ -55,6 +56,7 @@ pub fn read_head<R: Source>(
         × AskedFor AwaitsHead [] (R.pieces reader.old) (R.pieces reader.new) taken)) }
     ensures why { IfErr result (λ _. (why : R.Failure) × R.IsFailure reader.new why) }
     ensures broken { IfErr result (λ _. TakenAfter [] (R.left reader.old) (R.left reader.new) AwaitsHead) }
+    ensures handed { IsHanded head_room [] (R.fills reader.old) (R.fills reader.new) }
 {
     let mut filled = 0;
     'reads: loop {
@@ -66,7 +68,7 @@ pub fn read_head<R: Source>(
         if filled == buf.len() {
             return Ok(None);
         }
-        let Ok(n) = reader.pull(&mut buf[filled..]) else {
+        let Ok(n) = reader.fill(&mut buf[filled..]) else {
             return Err(BrokenRead);
         };
         if n == 0 {
@@ -84,7 +86,7 @@ pub enum BodyFault {
 }
 
 /// Reads the rest of a body of `n` bytes, and nothing after it. `start` has its first bytes.
-pub fn read_body<R: Source>(
+pub fn read_body<R: Filler>(
     alloc: Global,
     reader: &mut R,
     start: &[u8],
@@ -102,6 +104,7 @@ pub fn read_body<R: Source>(
     ensures why { IfErr result (λ e. e ≡ Broken → (why : R.Failure) × R.IsFailure reader.new why) }
     ensures fault { IfErr result (λ e. TakenAfter start.now (R.left reader.old) (R.left reader.new)
         (λ came. IsBodyFaultOf n came e)) }
+    ensures handed { IsHanded (body_room n) start.now (R.fills reader.old) (R.fills reader.new) }
 {
     let mut body = Vec::new(alloc);
     if body.extend_from_slice(start).is_err() {
@@ -111,7 +114,7 @@ pub fn read_body<R: Source>(
     'reads: while body.len() < n {
         let room = (n - body.len()).min(4096);
         let part = &mut chunk[..room];
-        let Ok(count) = reader.pull(part) else {
+        let Ok(count) = reader.fill(part) else {
             return Err(BodyFault::Read);
         };
         if count == 0 {

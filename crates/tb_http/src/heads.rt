@@ -7,6 +7,7 @@ ghost use Rattle.tb_http.specs.Replies.{allow_in};
 
 use crate::actions::Allow;
 use crate::asks::RequestFault;
+use crate::parts::written;
 use crate::replies::{Reply, push_number};
 use crate::status::Status;
 use arrayvec::ArrayString;
@@ -69,17 +70,11 @@ fn push_extra(head: &mut ArrayString<256>, more: Extra)
 pub fn response_head(status: Status, length: Option<u64>, more: Extra) -> ArrayString<256>
     ensures { result.bytes ≡ head_text status length more }
 {
-    let mut head = ArrayString::new();
-    head.push_str("HTTP/1.1 ");
-    head.push_str(status.code().as_str());
-    head.push_str(" ");
-    head.push_str(status.phrase());
-    head.push_str("\r\nContent-Type: text/plain; charset=utf-8\r\n");
-    push_length(&mut head, length);
-    head.push_str("Connection: close\r\n");
-    push_extra(&mut head, more);
-    head.push_str("\r\n");
-    head
+    written!(
+        text "HTTP/1.1 ", text status.code().as_str(), text " ", text status.phrase(),
+        text "\r\nContent-Type: text/plain; charset=utf-8\r\n", length length,
+        text "Connection: close\r\n", extra more, text "\r\n"
+    )
 }
 
 /// The header of a reply.

@@ -6,16 +6,19 @@
 
 mod actions;
 mod asks;
+mod filling;
 mod forms;
 mod head;
 mod headers;
 mod heads;
+mod parts;
 mod replies;
 mod routes;
 mod status;
 
 pub use actions::{Action, Allow, Resource, resource_of};
 pub use asks::{Ask, AskFault, BODY_BYTES, Call, RequestFault, bytes_ask_one_thing, read_ask};
+pub use filling::Filler;
 pub use forms::{
     attribute_of, base_of, context_of, event_of, most_of, name_of, number_of, port_of, requests_of,
     strategy_of,

@@ -8,6 +8,7 @@ ghost use Rattle.tb_http.specs.Replies.{fault_status, refusal_status, reply_text
 ghost use Rattle.tb_http.specs.declared.replies.Reply.TheVariants as reply;
 
 use crate::asks::RequestFault;
+use crate::parts::written;
 use crate::status::Status;
 use arrayvec::ArrayString;
 use tb_core::{Corrected, Imported, Moved, Pulled, Refusal, Restored, State};
@@ -49,24 +50,11 @@ fn word(state: State) -> &'static str
     state.word()
 }
 
-/// Appends a text, or a number.
-macro_rules! push {
-    ($line:ident, text $text:expr) => {
-        $line.push_str($text)
-    };
-    ($line:ident, number $number:expr) => {
-        push_number(&mut $line, $number)
-    };
-}
-
 /// The line of these texts and numbers.
 macro_rules! line {
-    ($($kind:ident $part:expr),*) => {{
-        let mut line = ArrayString::new();
-        $(push!(line, $kind $part);)*
-        line.push_str("\n");
-        line
-    }};
+    ($($kind:ident $part:expr),*) => {
+        written!($($kind $part,)* text "\n")
+    };
 }
 
 fn imported_line(r: &Imported) -> ArrayString<128>
@@ -228,6 +216,17 @@ fn refusal_status(refusal: Refusal) -> Status
     }
 }
 
+/// The answer to a command that was done.
+macro_rules! done {
+    () => {
+        Reply::Imported(_)
+            | Reply::Moved(_)
+            | Reply::Corrected(_)
+            | Reply::Pulled(_)
+            | Reply::Restored(_)
+    };
+}
+
 impl Reply {
     ghost use Rattle.std.specs.Prelude.{◌≡◌};
     ghost use Rattle.tb_http.specs.Replies.{reply_text, status_of, exit_of};
@@ -255,11 +254,7 @@ impl Reply {
         ensures { result ≡ status_of self }
     {
         match self {
-            Reply::Imported(_)
-            | Reply::Moved(_)
-            | Reply::Corrected(_)
-            | Reply::Pulled(_)
-            | Reply::Restored(_) => Status::Ok,
+            done!() => Status::Ok,
             Reply::Refused(refusal) => refusal_status(refusal),
             Reply::Faulty(fault) => fault_status(fault),
             Reply::Memory | Reply::Device | Reply::Desk => Status::ServiceUnavailable,
@@ -271,11 +266,7 @@ impl Reply {
         ensures { result ≡ exit_of self }
     {
         match self {
-            Reply::Imported(_)
-            | Reply::Moved(_)
-            | Reply::Corrected(_)
-            | Reply::Pulled(_)
-            | Reply::Restored(_) => 0,
+            done!() => 0,
             Reply::Refused(_) | Reply::Faulty(_) | Reply::Desk => 1,
             Reply::Memory | Reply::Device => 3,
         }

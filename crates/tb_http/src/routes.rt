@@ -1,6 +1,8 @@
 //! The desk's routes, matched by the library matchit.
 
-ghost use Rattle.std.specs.Prelude.{◌≡◌, IfErr, IfOk, OnOk, true};
+ghost use Rattle.std.specs.Prelude.{◌≡◌, Err as ErrOf, IfErr, IfOk, OnOk, true};
+ghost use Rattle.matchit.specs.Route.{parse_route};
+ghost use Rattle.matchit.specs.Router.{InsertsRead};
 ghost use Rattle.matchit.specs.declared.error.InsertError.TheVariants.{OutOfMemory};
 ghost use Rattle.tb_http.specs.Routes.{takes_text, with_text, route_rows, route_of};
 
@@ -41,9 +43,12 @@ fn with(mut router: Router<Route>, route: &str, value: Route) -> Result<Router<R
     ensures rows { IfOk result (λ r. r ≡ with_text route.now value router) }
     ensures taken { OnOk result (takes_text route.now router ≡ true) }
     ensures memory { takes_text route.now router ≡ true → IfErr result (λ e. e ≡ OutOfMemory) }
+    ensures fault { IfErr result (λ e. InsertsRead (parse_route route.now) value router router (ErrOf e)) }
 {
-    router.insert(route, value)?;
-    Ok(router)
+    match router.insert(route, value) {
+        Ok(()) => Ok(router),
+        Err(why) => Err(why),
+    }
 }
 
 /// The router of the desk's paths.
