@@ -1,7 +1,7 @@
 //! Checks a file.
 
 ghost use Rattle.std.specs.Prelude.{◌≡◌, ◌<◌, ◌≤◌, ◌^◌, ℕ, List, [], ◌∷◌, ◌++◌, length, IfOk};
-ghost use Rattle.std.specs.Prelude.{IfErr};
+ghost use Rattle.std.specs.Prelude.{IfErr, IsSome};
 ghost use Rattle.tb_conllu.specs.Fault.{IsReadFault};
 ghost use Rattle.tb_conllu.specs.Text.{BlockText};
 ghost use Rattle.tb_conllu.specs.Reported.{IsFile};
@@ -70,8 +70,9 @@ fn ask<T: Text>(
     block: &BlockOf<T>,
     reported: Option<FileFault>,
 ) -> Option<FileFault>
-    ensures { (before : List BlockText) → IsAsked checker.old reported before
+    ensures asked { (before : List BlockText) → IsAsked checker.old reported before
         → IsAsked checker.new result (before ++ block.now ∷ []) }
+    ensures kept { IsSome reported → (result ≡ reported) × (checker.new ≡ checker.old) }
 {
     // law: a fault of the first sentences is the file's
     a_fault_stays();

@@ -66,15 +66,25 @@ fn push_number(line: &mut ArrayString<80>, number: u64)
     line.push_str(buffer.format(number));
 }
 
+/// Two numbers, each with a text before it.
+fn two_numbers(before: &str, one: u64, between: &str, other: u64) -> ArrayString<80>
+    requires { length before.now + length between.now ≤ 24 }
+    ensures bytes { result.bytes ≡ before.now ++ decimal one ++ between.now ++ decimal other }
+    ensures bound { array_string_len result ≤ length before.now + length between.now + 40 }
+{
+    let mut line = ArrayString::new();
+    line.push_str(before);
+    push_number(&mut line, one);
+    line.push_str(between);
+    push_number(&mut line, other);
+    line
+}
+
 fn counts_line(sentences: u64, words: u64) -> ArrayString<80>
     ensures { result.bytes
         ≡ codes "sentences " ++ decimal sentences ++ codes " words " ++ decimal words ++ codes "\n" }
 {
-    let mut line = ArrayString::new();
-    line.push_str("sentences ");
-    push_number(&mut line, sentences);
-    line.push_str(" words ");
-    push_number(&mut line, words);
+    let mut line = two_numbers("sentences ", sentences, " words ", words);
     line.push_str("\n");
     line
 }
@@ -82,11 +92,7 @@ fn counts_line(sentences: u64, words: u64) -> ArrayString<80>
 fn read_line(number: u64, code: u8) -> ArrayString<80>
     ensures { result.bytes ≡ codes "refused 8 Read " ++ decimal number ++ codes " " ++ decimal code ++ codes "\n" }
 {
-    let mut line = ArrayString::new();
-    line.push_str("refused 8 Read ");
-    push_number(&mut line, number);
-    line.push_str(" ");
-    push_number(&mut line, u64::from(code));
+    let mut line = two_numbers("refused 8 Read ", number, " ", u64::from(code));
     line.push_str("\n");
     line
 }
@@ -96,11 +102,7 @@ fn rule_line(sentence: u64, rule: u8, row: u64) -> ArrayString<80>
         ≡ codes "refused 9 Rule " ++ decimal sentence ++ codes " " ++ decimal rule ++ codes " " ++ decimal row
         ++ codes "\n" }
 {
-    let mut line = ArrayString::new();
-    line.push_str("refused 9 Rule ");
-    push_number(&mut line, sentence);
-    line.push_str(" ");
-    push_number(&mut line, u64::from(rule));
+    let mut line = two_numbers("refused 9 Rule ", sentence, " ", u64::from(rule));
     line.push_str(" ");
     push_number(&mut line, row);
     line.push_str("\n");

@@ -1,7 +1,7 @@
 -- Between crates: no contract of a front door cites a definition of this module.
 -- Bytes that are in the text of each sentence in which a query has a hit: the needles of a prefilter (regex-automata).
 use Rattle.std.specs.Prelude.{◌≡◌, ℕ, zero, suc, List, [], ◌∷◌, ◌++◌, Bool, true, false, nat_eq}
-use Rattle.std.specs.Prelude.{if◌then◌else◌, ⊤}
+use Rattle.std.specs.Prelude.{if◌then◌else◌, Some, slice_get, ⊤}
 use Rattle.std.specs.List.{AllByRecursion, All}
 use Rattle.std.specs.Global.{Global}
 use Rattle.std.specs.declared.vec.Vec.{Vec}
@@ -55,6 +55,11 @@ abbrev mutual
   pub AllRequireNothing : Tests PlainLit → Type 0
   AllRequireNothing no_test = ⊤
   AllRequireNothing (and_test t ts) = RequiresNothing t × AllRequireNothing ts
+
+-- no expression that each match needs has to have a plain literal in its row
+abbrev pub NeedsNothing : Asked → Type 0
+NeedsNothing q = (n : ℕ) (t : Test PlainLit) → needs q.pat n ≡ true → slice_get q.tests n ≡ Some t
+    → RequiresNothing t
 
 -- where the first test holds of a row, so does the second
 abbrev pub Entails : Test PlainLit → Test PlainLit → Type 0

@@ -1,11 +1,11 @@
 //! What a text needs to have for a hit, and the texts that have it not.
 
-ghost use Rattle.std.specs.Prelude.{◌≡◌, All, [], ◌∷◌, IfOk, true, false};
+ghost use Rattle.std.specs.Prelude.{◌≡◌, All, [], ◌∷◌, IfOk, IsOk, true, false};
 ghost use Rattle.tb_conllu.specs.Text.{BlockText};
 ghost use Rattle.tb_conllu.specs.Reported.{IsFile};
 ghost use Rattle.tb_match.specs.declared.strategy.Strategy.{Strategy as AnyStrategy};
 ghost use Rattle.tb_query.specs.Search.{Asked, AreHitsIn};
-ghost use Rattle.tb_prefilter.specs.Needed.{AreNeeded, IsSubstring};
+ghost use Rattle.tb_prefilter.specs.Needed.{AreNeeded, IsSubstring, NeedsNothing};
 
 use crate::gathering::gather;
 use crate::needing::is_needed;
@@ -14,8 +14,13 @@ use std::alloc::{AllocError, Global};
 use tb_query::Query;
 
 /// Needles: bytes that are in the text of each sentence in which the query has a hit. There may be none.
+///
+/// # Errors
+///
+/// Memory was refused, which comes only where an expression that each match needs has a plain literal.
 pub fn needles_of(alloc: Global, query: &Query) -> Result<Vec<Vec<u8>>, AllocError>
-    ensures { IfOk result (λ v. AreNeeded query.now v.items) }
+    ensures needed { IfOk result (λ v. AreNeeded query.now v.items) }
+    ensures sure { NeedsNothing query.now → IsOk result }
 {
     let mut needles = Vec::new(alloc);
     for (number, expr) in query.exprs().iter().enumerate() {

@@ -4,3 +4,4 @@ pub mod Found
 pub mod Streams
 pub mod Failing
 pub mod ReadOnly
+pub mod Fetched

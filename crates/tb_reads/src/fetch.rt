@@ -4,6 +4,7 @@ ghost use Rattle.std.specs.Prelude.{◌≡◌, ◌≢◌, List, All, map, Err, I
 ghost use Rattle.tb_reads.specs.Prelude.{bound, Columns, FailsOnlyAs, HasCleanDisk, IsFaultless, IsStoreFault, IsWant};
 ghost use Rattle.tb_reads.specs.Prelude.{numbered, Shown, state};
 ghost use Rattle.tb_reads.specs.Failing.{IsDeskQuery, SeesAsBefore, IsUnchangedOnForm, IsReadFault, IsReadWant};
+ghost use Rattle.tb_reads.specs.Fetched.{ShowsRows};
 ghost use Rattle.tb_reads.specs.Found.{HasUnreadable, ShowsFirst};
 ghost use Rattle.tb_reads.specs.ReadOnly.{IsReadOnly};
 
@@ -20,8 +21,7 @@ pub(crate) fn fetch_rows<S: Alter>(
     params: &[ValueRef<'_>],
 ) -> Result<Vec<Row>, Error>
     requires { IsDeskQuery sql.now (bound params.now) }
-    ensures shown { HasCleanDisk (state S.Store conn.new) → IfOk result (λ rows. Shown sql.now (bound params.now)
-        (state S.Store conn.old) (state S.Store conn.new) rows.items) }
+    ensures shown { ShowsRows S.Store conn.old conn.new sql.now (bound params.now) result (λ rows. rows.items) }
     ensures sees { SeesAsBefore S.Store conn.old conn.new }
     ensures fails { FailsOnlyAs IsStoreFault S.Store conn.old conn.new result }
     ensures cause { IsFaultless S.Store conn.old conn.new → FailsOnlyAs IsWant S.Store conn.old conn.new result }
@@ -38,8 +38,8 @@ pub(crate) fn fetch_all<T: FromRow, S: Alter>(
     params: &[ValueRef<'_>],
 ) -> Result<Vec<T>, ReadError>
     requires { IsDeskQuery sql.now (bound params.now) }
-    ensures shown { HasCleanDisk (state S.Store conn.new) → IfOk result (λ v. Shown sql.now (bound params.now)
-        (state S.Store conn.old) (state S.Store conn.new) (numbered T.shown 1 (map T.plain v.items))) }
+    ensures shown { ShowsRows S.Store conn.old conn.new sql.now (bound params.now) result (λ v.
+        numbered T.shown 1 (map T.plain v.items)) }
     ensures form { HasCleanDisk (state S.Store conn.new) → result ≡ Err ReadError.Form → (rows : List Columns)
         × Shown sql.now (bound params.now) (state S.Store conn.old) (state S.Store conn.new) rows
         × ((xs : List T.Plain) → All T.Fits xs → rows ≢ numbered T.shown 1 xs) }

@@ -1,6 +1,7 @@
 -- Between crates: no contract of a front door cites a definition of this module.
 -- The tables that each accepted command of the machine writes, from those of the state before it.
-use Rattle.std.specs.Prelude.{ℕ, ◌+◌, List, [], ◌∷◌, map}
+use Rattle.std.specs.Prelude.{◌≡◌, ℕ, ◌+◌, ◌-◌, List, [], ◌∷◌, map, Some, slice_get}
+use Rattle.sqlite.specs.Tree.{Trees}
 use Rattle.tb_conllu.specs.Text.{BlockText, text_of}
 use Rattle.tb_conllu.specs.Words.{words_of}
 use Rattle.tb_core.specs.declared.kinds.Event.{Event}
@@ -8,8 +9,10 @@ use Rattle.tb_core.specs.declared.kinds.State.{State}
 use Rattle.tb_core.specs.declared.kinds.State.TheVariants.{Opened, Withdrawn}
 use Rattle.tb_core.specs.Events.{goes_to, makes_worker}
 use Rattle.tb_core.specs.Machine.{sent_id_of, Machine}
-use Rattle.tb_core.specs.Acts.{Act, importing, stepping, correcting, pulling, restoring, with_worker, after, move_of}
-use Rattle.tb_tables.specs.Records.{Tables, Batch, Sentence, Total}
+use Rattle.tb_core.specs.Reaching.{Reached}
+use Rattle.tb_core.specs.Acts.{Act, IsAllowed, importing, stepping, correcting, pulling, restoring, with_worker, after}
+use Rattle.tb_core.specs.Acts.{move_of}
+use Rattle.tb_tables.specs.Records.{Tables, AreStored, Batch, Sentence, Total}
 use Rattle.tb_tables.specs.Commands.{NewSentenceRecord, after_import, after_event, after_correction, after_pull}
 use Rattle.tb_tables.specs.Commands.{after_restore}
 use Rattle.tb_refine.specs.Numbers.{state_number}
@@ -56,3 +59,13 @@ restore_written s place user st =
     let a : Act = restoring place user in
     after_restore (tables_of s) (place + 1) (move_record (move_of s a)) (total_record
     (after s a) Withdrawn) (total_record (after s a) st)
+
+-- An act on the sentence at a place: where its batch is in a state, the tables that `written` gives are those of the
+-- next state.
+abbrev pub StoresAct : (act : ℕ → List ℕ → Act) → (written : Machine → ℕ → List ℕ → State → Tables) → Type 0
+StoresAct act written =
+    (s : Machine) (place : ℕ) (user : List ℕ) → Reached s → IsAllowed s (act place user) → (x : Sentence)
+    → slice_get (tables_of s).sentences place ≡ Some x → (b : Batch)
+    → slice_get (tables_of s).batches (x.batch - 1) ≡ Some b → (st : State) → b.state ≡ state_number st
+    → (trees : Trees) → AreStored (written s place user st) trees
+    → AreStored (tables_of (after s (act place user))) trees

@@ -13,7 +13,7 @@ ghost use Rattle.tb_refine.specs.Numbers.{state_number};
 ghost use Rattle.tb_refine.specs.DeskTables.{tables_of, batch_record, sentence_record, total_record};
 ghost use Rattle.tb_refine.specs.Found.{IsSame, IsRevisionOf, revision_shown_as};
 ghost use Rattle.tb_refine.specs.Written.{import_written, event_written, correction_written, pull_written};
-ghost use Rattle.tb_refine.specs.Written.{restore_written};
+ghost use Rattle.tb_refine.specs.Written.{StoresAct, restore_written};
 
 use tb_core::rows_tell_the_state;
 
@@ -46,20 +46,12 @@ pub fn corrections_are_stored()
 
 /// A pull: the row of the sentence has its batch, whose row has the state that is left.
 pub fn pulls_are_stored()
-    ensures { (s : Machine) (place : ℕ) (user : List ℕ) → Reached s → IsAllowed s (pulling place user)
-        → (x : Sentence) → slice_get (tables_of s).sentences place ≡ Some x → (b : Batch)
-        → slice_get (tables_of s).batches (x.batch - 1) ≡ Some b → (st : State) → b.state ≡ state_number st
-        → (trees : Trees) → AreStored (pull_written s place user st) trees
-        → AreStored (tables_of (after s (pulling place user))) trees }
+    ensures { StoresAct pulling pull_written }
 {}
 
 /// A restore: the row of the sentence has its batch, whose row has the state that is reached.
 pub fn restores_are_stored()
-    ensures { (s : Machine) (place : ℕ) (user : List ℕ) → Reached s → IsAllowed s (restoring place user)
-        → (x : Sentence) → slice_get (tables_of s).sentences place ≡ Some x → (b : Batch)
-        → slice_get (tables_of s).batches (x.batch - 1) ≡ Some b → (st : State) → b.state ≡ state_number st
-        → (trees : Trees) → AreStored (restore_written s place user st) trees
-        → AreStored (tables_of (after s (restoring place user))) trees }
+    ensures { StoresAct restoring restore_written }
 {}
 
 /// The records of a desk within the largest limits can be numbered by 31 bits. There are six totals, and each number of

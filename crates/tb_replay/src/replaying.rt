@@ -106,6 +106,7 @@ fn step_event<'a>(
     ensures answer { result ≡ event_test (small slots.old marks.now count) event change.now }
     ensures next { result ≡ true → slots.new ≡ change_at (slot_moved event change.now.who) slots.old
         (change.now.batch - 1) }
+    ensures kept { result ≡ false → slots.new ≡ slots.old }
 {
     if !is_event(slots, marks, count, event, change) {
         return false;
@@ -119,6 +120,7 @@ fn step_pull(slots: &mut [Slot<'_>], marks: &mut [Mark], count: u64, change: &Mo
     ensures answer { result ≡ pull_test (small slots.old marks.old count) change.now }
     ensures next { result ≡ true → small slots.new marks.new (count + 1)
         ≡ pull_next (small slots.old marks.old count) change.now }
+    ensures kept { result ≡ false → (slots.new ≡ slots.old) × (marks.new ≡ marks.old) }
 {
     if !is_pull(slots, marks, count, change) {
         return false;
@@ -146,6 +148,7 @@ fn step_restore(slots: &mut [Slot<'_>], marks: &mut [Mark], count: u64, change: 
     ensures answer { result ≡ restore_test (small slots.old marks.old count) change.now }
     ensures next { result ≡ true → small slots.new marks.new (count + 1)
         ≡ restore_next (small slots.old marks.old count) change.now }
+    ensures kept { result ≡ false → (slots.new ≡ slots.old) × (marks.new ≡ marks.old) }
 {
     let place = change.sent.saturating_sub(1);
     if place >= marks.len() as u64 {
@@ -187,6 +190,7 @@ fn step_correct(
     ensures answer { result ≡ correct_test entries.now (small slots.old marks.old count) change.now }
     ensures next { result ≡ true → small slots.new marks.new (count + 1) ≡ correct_next entries.now
         (small slots.old marks.old count) change.now }
+    ensures kept { result ≡ false → (slots.new ≡ slots.old) × (marks.new ≡ marks.old) }
 {
     let place = change.sent.saturating_sub(1);
     if place >= marks.len() as u64 {
@@ -246,6 +250,8 @@ fn step_import<'a>(
         (small slots.old.items marks.old.items count) change.now) }
     ensures next { IfOk result (λ b. b ≡ true → small slots.new.items marks.new.items (count + 1)
         ≡ import_next entries.now (small slots.old.items marks.old.items count) change.now) }
+    ensures kept { IfOk result (λ b. b ≡ false
+        → (slots.new.items ≡ slots.old.items) × (marks.new.items ≡ marks.old.items)) }
     ensures sure { batches ≤ length slots.old.items → IsOk result }
     ensures wrong { import_test batches entries.now (small slots.old.items marks.old.items count) change.now ≡ false
         → IsOk result }
@@ -283,6 +289,8 @@ fn step<'a>(
         (small slots.old.items marks.old.items count) change.now) }
     ensures next { IfOk result (λ b. b ≡ true → small slots.new.items marks.new.items (count + 1)
         ≡ kind_next change.now.kind entries.now (small slots.old.items marks.old.items count) change.now) }
+    ensures kept { IfOk result (λ b. b ≡ false
+        → (slots.new.items ≡ slots.old.items) × (marks.new.items ≡ marks.old.items)) }
     ensures sure { change.now.kind ≢ Kind.Import → IsOk result }
     ensures wrong { kind_test change.now.kind batches entries.now (small slots.old.items marks.old.items count)
         change.now ≡ false → IsOk result }

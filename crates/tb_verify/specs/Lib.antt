@@ -4,6 +4,7 @@ pub mod Course
 pub mod File
 pub mod Apart
 pub mod Summary
+pub mod Called
 pub mod TableReads
 pub mod Looks
 pub mod Version1

@@ -31,14 +31,48 @@ fn are_good(rows: &[BatchRow]) -> bool
     rows.iter().all(|row| is_good(row))
 }
 
-fn names_apart(alloc: Global, rows: &[BatchRow]) -> Result<bool, AllocError>
-    ensures apart { IfOk result (λ apart. Decides apart (AreApart (map (λ r. string_bytes r.name) rows.now))) }
+/// A row with a text of its own.
+trait Titled {
+    ghost use Rattle.std.specs.Prelude.{◌≡◌, ℕ, List};
+
+    ghost text: { Self → List ℕ };
+
+    /// Its own text.
+    fn own_text(&self) -> &str
+        ensures { result.now ≡ text self.now };
+}
+
+/// A batch has its name.
+impl Titled for BatchRow {
+    ghost use Rattle.std.specs.Prelude.{string_bytes};
+
+    ghost text = { λ r. string_bytes r.name };
+
+    fn own_text(&self) -> &str {
+        self.name.as_str()
+    }
+}
+
+/// A sentence has its `sent_id`.
+impl Titled for SentenceRow {
+    ghost use Rattle.std.specs.Prelude.{string_bytes};
+
+    ghost text = { λ r. string_bytes r.sent_id };
+
+    fn own_text(&self) -> &str {
+        self.sent_id.as_str()
+    }
+}
+
+/// Whether no two rows have one text.
+fn are_apart<R: Titled>(alloc: Global, rows: &[R]) -> Result<bool, AllocError>
+    ensures apart { IfOk result (λ apart. Decides apart (AreApart (map R.text rows.now))) }
     ensures sure { rows.now ≡ [] → IsOk result }
 {
-    // A tree, not a hash table: no file can make its names collide.
+    // A tree, not a hash table: no file can make its texts collide.
     let mut seen: BTreeSet<String> = BTreeSet::new(alloc);
     for row in rows {
-        if !add(alloc, &mut seen, row.name.as_str())? {
+        if !add(alloc, &mut seen, row.own_text())? {
             return Ok(false);
         }
     }
@@ -58,7 +92,7 @@ pub(crate) fn are_batches_apart(alloc: Global, rows: &[BatchRow]) -> Result<bool
     if !are_good(rows) {
         return Ok(false);
     }
-    names_apart(alloc, rows)
+    are_apart::<BatchRow>(alloc, rows)
 }
 
 /// Whether no two sentences have the same `sent_id`.
@@ -70,12 +104,5 @@ pub(crate) fn are_sentences_apart(alloc: Global, rows: &[SentenceRow]) -> Result
     ensures apart { IfOk result (λ apart. Decides apart (AreTitled (map sentence_of rows.now))) }
     ensures sure { rows.now ≡ [] → IsOk result }
 {
-    // A tree here too: a file names its sentences as it likes.
-    let mut seen: BTreeSet<String> = BTreeSet::new(alloc);
-    for row in rows {
-        if !add(alloc, &mut seen, row.sent_id.as_str())? {
-            return Ok(false);
-        }
-    }
-    Ok(true)
+    are_apart::<SentenceRow>(alloc, rows)
 }

@@ -8,10 +8,11 @@
 //! tested here, and `NotADesk` is exact: the connection is in a transaction, the schema is another, or no such state
 //! has the rows. A read that the store cuts short, for any reason, is a fault of the device.
 
-ghost use Rattle.std.specs.Prelude.{◌≡◌, ◌≢◌, ◌≤◌, false, None, Err, IsTrue, IfOk, OnOk};
+ghost use Rattle.std.specs.Prelude.{◌≡◌, ◌≢◌, false, None, Err, IsTrue, IfOk, OnOk};
 ghost use Rattle.tb_verify.specs.Prelude.{AnyFault, AnyRefusal, BlamesNoDisk, HasCleanDisk, IsDeskOf, IsUnchanged};
 ghost use Rattle.tb_verify.specs.Prelude.{KeepsRecords, Machine, state, Survives};
 ghost use Rattle.tb_verify.specs.Summary.{IsSummaryOf};
+ghost use Rattle.tb_verify.specs.Called.{CallsNoneOf, HasFewCounts, LeavesNoDesk};
 ghost use Rattle.tb_verify.specs.Looks.{LooksLikeDesk};
 
 use crate::reading::read_rows;
@@ -43,12 +44,9 @@ pub fn read_desk<S: Alter>(alloc: Global, conn: &mut Connection<S>) -> Result<De
     ensures answered { HasCleanDisk (state S.Store conn.new) → IfOk result (λ x. (s : Machine)
         × IsDeskOf S.Store conn.old s × IsDeskOf S.Store conn.new s × IsSummaryOf x s) }
     ensures in_autocommit { OnOk result (conn.new.in_transaction ≡ false) }
-    ensures counts { IfOk result (λ x. (x.batches ≤ x.moves) × (x.sentences ≤ 1000000)
-        × (x.moves ≤ 1000000000)) }
-    ensures unfit { HasCleanDisk (state S.Store conn.new) → result ≡ Err Fault.NotADesk → (s : Machine)
-        → IsDeskOf S.Store conn.old s → ⊥ }
-    ensures untouched { HasCleanDisk (state S.Store conn.new) → result ≡ Err Fault.NotADesk
-        → (state S.Store conn.new).now ≡ (state S.Store conn.old).now }
+    ensures counts { IfOk result HasFewCounts }
+    ensures unfit { CallsNoneOf (IsDeskOf S.Store conn.old) S.Store conn.new result }
+    ensures untouched { LeavesNoDesk S.Store conn.old conn.new result }
     ensures sees { HasCleanDisk (state S.Store conn.new) → IsTrue (state S.Store conn.new).is_open
         → (state S.Store conn.new).now ≡ (state S.Store conn.old).now }
     ensures never_refuses { (r : AnyRefusal) → result ≢ Err (Fault.Refused r) }

@@ -9,6 +9,7 @@ ghost use Rattle.tb_verify.specs.Apart.{AreNamed, AreTitled};
 ghost use Rattle.tb_core.specs.declared.kinds.Kind.TheVariants.{Import};
 ghost use Rattle.tb_verify.specs.declared.unfit.Unfit.TheVariants.{NotADesk};
 ghost use Rattle.tb_verify.specs.Summary.{IsShownBy, IsSummaryOf, tables_in};
+ghost use Rattle.tb_verify.specs.Called.{HasFewCounts};
 
 use crate::apart::{are_batches_apart, are_sentences_apart};
 use crate::entries::entries_in;
@@ -115,8 +116,7 @@ fn counted(
 fn summary_of_rows(alloc: Global, rows: &TableRows) -> Result<DeskSummary, Unfit>
     ensures summary { IfOk result (λ x. (s : Machine) × IsReachable s × (tables_in rows.now ≡ tables_of s)
         × IsSummaryOf x s) }
-    ensures counts { IfOk result (λ x. (x.batches ≤ x.moves) × (x.sentences ≤ 1000000)
-        × (x.moves ≤ 1000000000)) }
+    ensures counts { IfOk result HasFewCounts }
     ensures unfit { result ≡ Err NotADesk → (s : Machine) → IsReachable s
         → tables_in rows.now ≡ tables_of s → ⊥ }
     ensures bad { list_all (λ r. is_name (string_bytes r.name)) rows.now.batches.items ≡ false
@@ -146,8 +146,7 @@ fn summary_of_rows(alloc: Global, rows: &TableRows) -> Result<DeskSummary, Unfit
 pub(crate) fn summary_of_desk(alloc: Global, rows: &TableRows) -> Result<DeskSummary, Fault>
     ensures summary { IfOk result (λ x. (s : Machine) × IsReachable s × (tables_in rows.now ≡ tables_of s)
         × IsSummaryOf x s) }
-    ensures counts { IfOk result (λ x. (x.batches ≤ x.moves) × (x.sentences ≤ 1000000)
-        × (x.moves ≤ 1000000000)) }
+    ensures counts { IfOk result HasFewCounts }
     ensures unfit { result ≡ Err Fault.NotADesk → (s : Machine) → IsReachable s
         → tables_in rows.now ≡ tables_of s → ⊥ }
     ensures bad { list_all (λ r. is_name (string_bytes r.name)) rows.now.batches.items ≡ false

@@ -1,9 +1,10 @@
 //! Whether a store is a desk of version 1, and the change of one into a desk.
 
-ghost use Rattle.std.specs.Prelude.{◌≡◌, ◌≢◌, ◌≤◌, [], false, None, Err, IsTrue, IfOk, OnOk, OnErr};
+ghost use Rattle.std.specs.Prelude.{◌≡◌, ◌≢◌, [], false, None, Err, IsTrue, IfOk, OnOk, OnErr};
 ghost use Rattle.tb_verify.specs.Prelude.{AnyFault, AnyRefusal, AreStored, AreUnique, BlamesNoDisk, HasCleanDisk};
 ghost use Rattle.tb_verify.specs.Prelude.{HasMetaRowids, Holds, IsDeskOf, IsUnchanged, Machine, state, Survives, Tables, tables_of};
 ghost use Rattle.tb_verify.specs.Summary.{IsSummaryOf};
+ghost use Rattle.tb_verify.specs.Called.{CallsNoneOf, HasFewCounts, LeavesNoDesk};
 ghost use Rattle.tb_verify.specs.Version1.{AreStoredInVersion1, HoldsFirst};
 ghost use Rattle.tb_verify.specs.Version1Desk.{IsFirstDesk, LooksFirst};
 
@@ -31,12 +32,9 @@ fn read_first_desk<S: Alter>(alloc: Global, conn: &mut Connection<S>) -> Result<
     ensures answered { HasCleanDisk (state S.Store conn.new) → IfOk result (λ x. (s : Machine)
         × IsFirstDesk S.Store conn.old s × IsSummaryOf x s) }
     ensures in_autocommit { OnOk result (conn.new.in_transaction ≡ false) }
-    ensures counts { IfOk result (λ x. (x.batches ≤ x.moves) × (x.sentences ≤ 1000000)
-        × (x.moves ≤ 1000000000)) }
-    ensures unfit { HasCleanDisk (state S.Store conn.new) → result ≡ Err Fault.NotADesk → (s : Machine)
-        → IsFirstDesk S.Store conn.old s → ⊥ }
-    ensures untouched { HasCleanDisk (state S.Store conn.new) → result ≡ Err Fault.NotADesk
-        → (state S.Store conn.new).now ≡ (state S.Store conn.old).now }
+    ensures counts { IfOk result HasFewCounts }
+    ensures unfit { CallsNoneOf (IsFirstDesk S.Store conn.old) S.Store conn.new result }
+    ensures untouched { LeavesNoDesk S.Store conn.old conn.new result }
     ensures never_refuses { (r : AnyRefusal) → result ≢ Err (Fault.Refused r) }
     ensures output { result ≢ Err Fault.Output }
     ensures looks { result ≢ Err Fault.NotADesk → LooksFirst S.Store conn.old }
@@ -89,12 +87,9 @@ pub fn migrate<S: Alter>(alloc: Global, conn: &mut Connection<S>) -> Result<Desk
     ensures migrated { HasCleanDisk (state S.Store conn.new) → IfOk result (λ x. (s : Machine)
         × IsFirstDesk S.Store conn.old s × IsDeskOf S.Store conn.new s × IsSummaryOf x s) }
     ensures in_autocommit { OnOk result (conn.new.in_transaction ≡ false) }
-    ensures counts { IfOk result (λ x. (x.batches ≤ x.moves) × (x.sentences ≤ 1000000)
-        × (x.moves ≤ 1000000000)) }
-    ensures unfit { HasCleanDisk (state S.Store conn.new) → result ≡ Err Fault.NotADesk → (s : Machine)
-        → IsFirstDesk S.Store conn.old s → ⊥ }
-    ensures untouched { HasCleanDisk (state S.Store conn.new) → result ≡ Err Fault.NotADesk
-        → (state S.Store conn.new).now ≡ (state S.Store conn.old).now }
+    ensures counts { IfOk result HasFewCounts }
+    ensures unfit { CallsNoneOf (IsFirstDesk S.Store conn.old) S.Store conn.new result }
+    ensures untouched { LeavesNoDesk S.Store conn.old conn.new result }
     ensures unwritten { result ≡ Err Fault.NotADesk → Survives (state S.Store conn.old) (state S.Store conn.new)
         (λ _. ⊥) }
     ensures only_desks { ((s : Machine) → IsFirstDesk S.Store conn.old s → ⊥)

@@ -1,8 +1,9 @@
 //! Whether rows are those of a state without pulls. This module uses no database.
 
-ghost use Rattle.std.specs.Prelude.{◌≡◌, ◌≢◌, ◌≤◌, ◌↔◌, All, Err, IsTrue, IfOk, IfErr};
+ghost use Rattle.std.specs.Prelude.{◌≡◌, ◌≢◌, ◌↔◌, All, Err, IsTrue, IfOk, IfErr};
 ghost use Rattle.tb_verify.specs.Prelude.{AnyFault, AnyMoveRow, AnyRefusal, IsReachable, Machine, tables_of};
 ghost use Rattle.tb_verify.specs.Summary.{IsSummaryOf, tables_in};
+ghost use Rattle.tb_verify.specs.Called.{HasFewCounts};
 ghost use Rattle.tb_verify.specs.Version1Desk.{HasNoPull};
 
 use crate::summary::{DeskSummary, TableRows, summary_of_desk};
@@ -32,8 +33,7 @@ fn has_no_pull(moves: &[MoveRow]) -> bool
 pub(crate) fn summary_without_pulls(alloc: Global, rows: &TableRows) -> Result<DeskSummary, Fault>
     ensures summary { IfOk result (λ x. (s : Machine) × IsReachable s × HasNoPull s
         × (tables_in rows.now ≡ tables_of s) × IsSummaryOf x s) }
-    ensures counts { IfOk result (λ x. (x.batches ≤ x.moves) × (x.sentences ≤ 1000000)
-        × (x.moves ≤ 1000000000)) }
+    ensures counts { IfOk result HasFewCounts }
     ensures unfit { result ≡ Err Fault.NotADesk → (s : Machine) → IsReachable s → HasNoPull s
         → tables_in rows.now ≡ tables_of s → ⊥ }
     ensures never_refuses { (r : AnyRefusal) → result ≢ Err (Fault.Refused r) }

@@ -30,4 +30,4 @@ loop-checker-init c = ([], counted_none c.args.file.now c.new-unread.result c.ne
 pub loop-checker-preserved : goal.loop-checker-preserved
 loop-checker-preserved c =
     let read = rw c.in-Some.is at c.in_ok-block.ensures.next in
-    (c.loop-checker.invariant.0 ++ c.in-Some.block ∷ [], counted_next c.args.file.now c.loop-checker.unread c.read_next.new.self _ _ c.loop-checker.invariant.0 c.in-Some.block c.words.result c.words.ensures c.loop-checker.invariant.1 read.shaped read.text read.place, c.ask-found.ensures c.loop-checker.invariant.0 c.loop-checker.invariant.2)
+    (c.loop-checker.invariant.0 ++ c.in-Some.block ∷ [], counted_next c.args.file.now c.loop-checker.unread c.read_next.new.self _ _ c.loop-checker.invariant.0 c.in-Some.block c.words.result c.words.ensures c.loop-checker.invariant.1 read.shaped read.text read.place, c.ask-found.ensures.asked c.loop-checker.invariant.0 c.loop-checker.invariant.2)

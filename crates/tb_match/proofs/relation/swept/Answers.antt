@@ -24,7 +24,7 @@ pub repeat-requires-clause-chains : goal.repeat-requires-clause-chains
 repeat-requires-clause-chains c = λ is two i j p q.
     let w = c.args.shape.width in
     let last = c.args.shape.last in
-    let times : c.saturating_sub-times.result ≡ c.args.bounds.least - 1 = c.saturating_sub-times.ensures in
+    let times : c.saturating_sub-times.result ≤ c.args.bounds.least - 1 = omega (arith, c.saturating_sub-times.ensures) in
     let rows = c.in_ok-rows.ensures.unlimited is i j p q in
     subst (λ xs. InTable xs w i j ↔ ((k : ℕ) × (1 ≤ k) × Chain (Link c.args.links.now w last) k i j)) (sym c.deref_mut.ensures.value) (
       λ h. let r = rows.0 h in let enough : c.args.bounds.least ≤ c.args.bounds.least - 1 + r.0 = r.1 in (r.0, omega arith, r.3),

@@ -5,4 +5,4 @@ pub returns-then-not-are_good-clause-named : goal.returns-then-not-are_good-clau
 returns-then-not-are_good-clause-named c = reported_false (not_good c.args.rows.now c.are_good.result c.are_good.ensures c.if-not-are_good.true)
 
 pub returns-clause-named : goal.returns-clause-named
-returns-clause-named c = all_named_if c.args.rows.now c.are_good.result c.names_apart.result c.are_good.ensures c.if-not-are_good.false c.names_apart.ensures.apart
+returns-clause-named c = all_named_if c.args.rows.now c.are_good.result c.are_apart.result c.are_good.ensures c.if-not-are_good.false c.are_apart.ensures.apart
