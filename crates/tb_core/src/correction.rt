@@ -83,22 +83,6 @@ fn only_sentence<'a>(alloc: Global, body: &'a [u8]) -> Result<SourcedSentence<'a
     }
 }
 
-/// The one sentence of a body that corrects the current one, without the law that `take_one_ref` adds.
-fn fitting_sentence<'a, T: Text>(
-    alloc: Global,
-    body: &'a [u8],
-    current: &BlockOf<T>,
-) -> Result<SourcedSentence<'a>, Fault>
-    ensures taken { IfOk result (λ p. IsCorrection body.now current.now p.block) }
-    ensures text { IfOk result (λ p. p.text.now ≡ body.now) }
-    ensures refused { IfErr result (IsTakingFault (IsCorrectionRefused body.now current.now)) }
-    ensures memory { IfErr result (λ e. e ≡ Memory → MayWantMemory body.now) }
-{
-    let passage = only_sentence(alloc, body)?;
-    fits(&passage.block, current)?;
-    Ok(passage)
-}
-
 /// The one sentence of a body, which corrects the current one: it has the same `sent_id` and `text`, and differs.
 ///
 /// It borrows from the body, which is its text.
@@ -123,7 +107,9 @@ pub fn take_one_ref<'a, T: Text>(
     one_list_has_a_text();
     reported_bytes_are_no_file();
     faulty_sentences_are_not_valid();
-    fitting_sentence(alloc, body, current)
+    let passage = only_sentence(alloc, body)?;
+    fits(&passage.block, current)?;
+    Ok(passage)
 }
 
 /// The same as `take_one_ref`, but the sentence owns its texts.

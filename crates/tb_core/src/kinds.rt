@@ -1,5 +1,7 @@
 //! States of a batch, events and kinds of moves, with their words in texts.
 
+ghost use Rattle.std.specs.Prelude.{◌≡◌, ◌<◌};
+
 /// The state of a batch, and of each of its sentences that is not pulled.
 #[derive(Clone, Copy, PartialEq, Eq, Debug)]
 pub enum State {
@@ -12,7 +14,6 @@ pub enum State {
 }
 
 impl State {
-    ghost use Rattle.std.specs.Prelude.{◌≡◌, ◌<◌};
     ghost use Rattle.tb_core.specs.Words.{state_word};
     ghost use Rattle.tb_core.specs.Events.{state_place};
 
@@ -60,7 +61,6 @@ pub enum Event {
 }
 
 impl Event {
-    ghost use Rattle.std.specs.Prelude.{◌≡◌};
     ghost use Rattle.tb_core.specs.Words.{event_word};
     ghost use Rattle.tb_core.specs.Events.{goes_to, makes_worker};
 
@@ -117,7 +117,6 @@ pub enum Kind {
 }
 
 impl Kind {
-    ghost use Rattle.std.specs.Prelude.{◌≡◌};
     ghost use Rattle.tb_core.specs.Words.{kind_word};
 
     /// The word for the kind; for an event, the event's. Takes no memory.

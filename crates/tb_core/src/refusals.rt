@@ -1,5 +1,7 @@
 //! Why a command or a question is refused, and why a call fails.
 
+ghost use Rattle.std.specs.Prelude.{◌≡◌, Some};
+
 use crate::kinds::State;
 use std::alloc::{AllocError, AllocFailed};
 use std::error::Error;
@@ -49,7 +51,6 @@ pub enum Refusal {
 }
 
 impl Refusal {
-    ghost use Rattle.std.specs.Prelude.{◌≡◌};
     ghost use Rattle.tb_core.specs.Refusals.{refusal_number};
 
     /// Its number, 1 to 22. Takes no memory.
@@ -84,7 +85,6 @@ impl Refusal {
 }
 
 impl fmt::Display for Refusal {
-    ghost use Rattle.std.specs.Prelude.{Some};
     ghost use Rattle.tb_core.specs.Refusals.{refusal_text};
 
     ghost output = { λ r. Some (refusal_text r) };
@@ -137,7 +137,6 @@ pub enum Fault {
 }
 
 impl fmt::Display for Fault {
-    ghost use Rattle.std.specs.Prelude.{Some};
     ghost use Rattle.tb_core.specs.Refusals.{fault_text};
 
     ghost output = { λ e. Some (fault_text e) };
@@ -156,7 +155,6 @@ impl fmt::Display for Fault {
 impl Error for Fault {}
 
 impl From<Refusal> for Fault {
-    ghost use Rattle.std.specs.Prelude.{◌≡◌};
     ghost use Rattle.tb_core.specs.declared.refusals.Fault.TheVariants.{Refused};
 
     ghost from_gives = { λ r e. e ≡ Refused r };
@@ -167,7 +165,6 @@ impl From<Refusal> for Fault {
 }
 
 impl From<AllocError> for Fault {
-    ghost use Rattle.std.specs.Prelude.{◌≡◌};
     ghost use Rattle.tb_core.specs.declared.refusals.Fault.TheVariants.{Memory};
 
     ghost from_gives = { λ _ e. e ≡ Memory };
@@ -178,7 +175,6 @@ impl From<AllocError> for Fault {
 }
 
 impl<T: Drop> From<AllocFailed<T>> for Fault {
-    ghost use Rattle.std.specs.Prelude.{◌≡◌};
     ghost use Rattle.tb_core.specs.declared.refusals.Fault.TheVariants.{Memory};
 
     ghost from_gives = { λ _ e. e ≡ Memory };

@@ -39,32 +39,31 @@ fn same_row<T: Text, U: Text>(one: &RowOf<T>, other: &RowOf<U>) -> bool
     same_front(one, other) && same_back(one, other)
 }
 
+/// Whether two lists have as many items, and each two at one place are the same.
+macro_rules! are_pairwise {
+    ($are_same:ident, $one:ident, $other:ident) => {{
+        if $one.len() != $other.len() {
+            return false;
+        }
+        for (i, item) in $one.iter().enumerate() {
+            if !$are_same(item, &$other[i]) {
+                return false;
+            }
+        }
+        true
+    }};
+}
+
 fn same_rows<T: Text, U: Text>(one: &[RowOf<T>], other: &[RowOf<U>]) -> bool
     ensures { IsTrue result ↔ (one.now ≡ other.now) }
 {
-    if one.len() != other.len() {
-        return false;
-    }
-    for (i, row) in one.iter().enumerate() {
-        if !same_row(row, &other[i]) {
-            return false;
-        }
-    }
-    true
+    are_pairwise!(same_row, one, other)
 }
 
 fn same_texts<T: Text, U: Text>(one: &[T], other: &[U]) -> bool
     ensures { IsTrue result ↔ (map T.bytes one.now ≡ map U.bytes other.now) }
 {
-    if one.len() != other.len() {
-        return false;
-    }
-    for (i, text) in one.iter().enumerate() {
-        if !same_text(text, &other[i]) {
-            return false;
-        }
-    }
-    true
+    are_pairwise!(same_text, one, other)
 }
 
 /// Whether the sentences have the same comments and the same rows. Takes no memory.

@@ -1,6 +1,6 @@
 //! Patterns, as the library regex compiles them.
 
-ghost use Rattle.std.specs.Prelude.{◌≡◌, ◌≤◌, ◌+◌, List, ℕ, false, IfOk, IfErr, IfSome};
+ghost use Rattle.std.specs.Prelude.{◌≡◌, ◌≤◌, ◌+◌, List, ℕ, false, IfOk, IfErr, IfSome, Some};
 ghost use Rattle.regex.specs.Strings.{regex_pattern, regex_size, matcher_pattern};
 ghost use Rattle.regex_syntax.specs.declared.error.ErrorKind.TheVariants.{OutOfMemory};
 ghost use Rattle.tb_literal.specs.Patterns.{IsPattern, IsWhole, finds, wrapped};
@@ -24,7 +24,6 @@ pub enum PatternFault {
 }
 
 impl fmt::Display for PatternFault {
-    ghost use Rattle.std.specs.Prelude.{Some};
     ghost use Rattle.tb_literal.specs.FaultText.{fault_text};
 
     ghost output = { λ e. Some (fault_text e) };
@@ -40,7 +39,6 @@ impl fmt::Display for PatternFault {
 impl Error for PatternFault {}
 
 impl From<AllocError> for PatternFault {
-    ghost use Rattle.std.specs.Prelude.{◌≡◌};
     ghost use Rattle.tb_literal.specs.declared.pattern.PatternFault.TheVariants.{Memory};
 
     ghost from_gives = { λ _ fault. fault ≡ Memory };
@@ -51,7 +49,6 @@ impl From<AllocError> for PatternFault {
 }
 
 impl<T: Drop> From<AllocFailed<T>> for PatternFault {
-    ghost use Rattle.std.specs.Prelude.{◌≡◌};
     ghost use Rattle.tb_literal.specs.declared.pattern.PatternFault.TheVariants.{Memory};
 
     ghost from_gives = { λ _ fault. fault ≡ Memory };

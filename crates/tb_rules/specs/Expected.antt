@@ -1,8 +1,9 @@
 -- Inner: no contract beyond this crate cites a definition of this module.
 -- White space that is folded while characters come, and a text that is compared with them.
 use Rattle.std.specs.Prelude.{◌≡◌, ◌↔◌, ℕ, List, [], ◌∷◌, ◌++◌, length, Bool, true, false}
-use Rattle.std.specs.Prelude.{◌&&◌, not, ◌==◌, if◌then◌else◌, encode_utf8_all}
+use Rattle.std.specs.Prelude.{◌&&◌, not, ◌==◌, if◌then◌else◌, encode_utf8_all, Option, MatchOption}
 use Rattle.std.specs.Char.{is_whitespace}
+use Rattle.tb_rules.specs.declared.matching.Expected.{Expected}
 
 -- What these characters add to a folded text. `begun` says whether a character came out before them, `gap` whether
 -- white space came after it.
@@ -33,3 +34,9 @@ Refuses rest begun gap cs = (next : List ℕ) → ¬ (IsRest rest begun gap (cs 
 abbrev pub Leaves : List ℕ → Bool → Bool → List ℕ → List ℕ → Bool → Bool → Type 0
 Leaves rest begun gap cs rest' begun' gap' = (next : List ℕ) → IsRest rest' begun' gap' next
     ↔ IsRest rest begun gap (cs ++ next)
+
+-- what is expected after these characters, or nothing where they cannot come
+abbrev pub Takes : Expected → List ℕ → Option Expected → Type 0
+Takes expected cs result =
+    MatchOption result (Refuses expected.rest.now expected.begun expected.gap cs) (λ after.
+    Leaves expected.rest.now expected.begun expected.gap cs after.rest.now after.begun after.gap)

@@ -2,6 +2,7 @@
 
 ghost use Rattle.std.specs.Prelude.{◌≡◌, ◌↔◌, ◌++◌, ◌∷◌, [], IfOk, IsOk, IsTrue, List, MatchOption, None, OnOk, map};
 ghost use Rattle.tb_conllu.specs.Text.{BlockText};
+ghost use Rattle.tb_conllu.specs.Words.{words_of};
 ghost use Rattle.tb_rules.specs.Broken.{AreBroken, AreBrokenOf, IsAsked, IsBrokenAt, TakesNoMemory, rule_of};
 ghost use Rattle.tb_rules.specs.Comments.{HasText};
 ghost use Rattle.tb_rules.specs.Ids.{HasIds};
@@ -18,7 +19,7 @@ use crate::rule::{RULES, Rule, number_of};
 use crate::spelling::is_restored;
 use crate::tree::{has_one_root, has_tree};
 use std::alloc::{AllocError, Global};
-use tb_conllu::{BlockOf, Text};
+use tb_conllu::{BlockOf, Text, words};
 
 /// A rule that a sentence breaks.
 #[derive(Clone, Copy, Debug, PartialEq, Eq)]
@@ -55,9 +56,11 @@ fn broken_row<T: Text>(
     alloc: Global,
     accepted: &mut Accepted,
     block: &BlockOf<T>,
+    words: usize,
     rule: Rule,
 ) -> Result<Option<usize>, AllocError>
-    requires { IsAsked (rule_of rule) block.now }
+    requires count { words ≡ words_of block.now }
+    requires asked { IsAsked (rule_of rule) block.now }
     ensures row { IfOk result (λ r. MatchOption r (Keeps (rule_of rule) block.now)
         (IsBrokenAt (rule_of rule) block.now)) }
     ensures sure { TakesNoMemory (rule_of rule) block.now → IsOk result }
@@ -65,12 +68,12 @@ fn broken_row<T: Text>(
     match rule {
         Rule::SentId => Ok(row_unless(has_sent_id(block))),
         Rule::Text => Ok(row_unless(has_text(block))),
-        Rule::Ids => Ok(row_unless(has_ids(block))),
-        Rule::Words => Ok(word_row(alloc, accepted, block)),
-        Rule::Spans => Ok(span_row(block)),
+        Rule::Ids => Ok(row_unless(has_ids(block, words))),
+        Rule::Words => Ok(word_row(alloc, accepted, block, words)),
+        Rule::Spans => Ok(span_row(block, words)),
         Rule::Nodes => Ok(node_row(block)),
         Rule::Features => feature_row(alloc, accepted, block),
-        Rule::Dependencies => dependency_row(alloc, block),
+        Rule::Dependencies => dependency_row(alloc, block, words),
         Rule::OneRoot => Ok(row_unless(has_one_root(block))),
         Rule::Tree => tree_row(alloc, block),
         Rule::Restored => restored_row(alloc, block),
@@ -115,14 +118,15 @@ pub(crate) fn broken_of<T: Text>(
 ) -> Result<Vec<BrokenRule>, AllocError>
     ensures { IfOk result (λ v. AreBrokenOf (map rule_of rules.now) block.now v.items) }
 {
+    let words = words(block);
     let text = has_text(block);
-    let ids = has_ids(block);
+    let ids = has_ids(block, words);
     let mut broken = Vec::new(alloc);
     for rule in rules {
         if !is_asked(*rule, text, ids) {
             continue;
         }
-        let row = broken_row(alloc, accepted, block, *rule)?;
+        let row = broken_row(alloc, accepted, block, words, *rule)?;
         push_row(&mut broken, *rule, row)?;
     }
     Ok(broken)

@@ -33,16 +33,19 @@ pub(crate) fn word_row<T: Text>(
     alloc: Global,
     accepted: &mut Accepted,
     block: &BlockOf<T>,
+    words: usize,
 ) -> Option<usize>
+    requires { words ≡ words_of block.now }
     ensures { MatchOption result (HasWords block.now) (IsFirstFault (word_test (words_of block.now)) block.now.rows) }
 {
-    word_fault(alloc, accepted, &block.rows, words(block))
+    word_fault(alloc, accepted, &block.rows, words)
 }
 
-pub(crate) fn span_row<T: Text>(block: &BlockOf<T>) -> Option<usize>
+pub(crate) fn span_row<T: Text>(block: &BlockOf<T>, words: usize) -> Option<usize>
+    requires { words ≡ words_of block.now }
     ensures { MatchOption result (HasSpans block.now) (IsFirstFault (span_test (words_of block.now)) block.now.rows) }
 {
-    span_fault(&block.rows, words(block))
+    span_fault(&block.rows, words)
 }
 
 pub(crate) fn node_row<T: Text>(block: &BlockOf<T>) -> Option<usize>
@@ -66,13 +69,15 @@ pub(crate) fn feature_row<T: Text>(
 pub(crate) fn dependency_row<T: Text>(
     alloc: Global,
     block: &BlockOf<T>,
+    words: usize,
 ) -> Result<Option<usize>, AllocError>
-    requires { HasIds block.now }
+    requires count { words ≡ words_of block.now }
+    requires ids { HasIds block.now }
     ensures value { IfOk result (λ r. MatchOption r (HasDependencies block.now)
         (IsFirstFault (dependency_test block.now.rows) block.now.rows)) }
     ensures sure { list_any (λ r. is_node_id r.id) block.now.rows ≡ false → IsOk result }
 {
-    dependency_fault(alloc, &block.rows, words(block))
+    dependency_fault(alloc, &block.rows, words)
 }
 
 /// The least broken rule of 1 to 6: comments, and each row by itself and by its place.
@@ -80,7 +85,9 @@ fn check_rows<T: Text>(
     alloc: Global,
     accepted: &mut Accepted,
     block: &BlockOf<T>,
+    words: usize,
 ) -> Result<(), RuleFault>
+    requires { words ≡ words_of block.now }
     ensures valid { OnOk result (KeepsTo6 block.now) }
     ensures fault { IfErr result (IsRuleFault block.now) }
     ensures memory { IfErr result (λ e. e ≡ Memory → ⊥) }
@@ -91,13 +98,13 @@ fn check_rows<T: Text>(
     if !has_text(block) {
         return Err(RuleFault::At { rule: 2, row: 0 });
     }
-    if !has_ids(block) {
+    if !has_ids(block, words) {
         return Err(RuleFault::At { rule: 3, row: 0 });
     }
-    if let Some(row) = word_row(alloc, accepted, block) {
+    if let Some(row) = word_row(alloc, accepted, block, words) {
         return Err(RuleFault::At { rule: 4, row });
     }
-    if let Some(row) = span_row(block) {
+    if let Some(row) = span_row(block, words) {
         return Err(RuleFault::At { rule: 5, row });
     }
     if let Some(row) = node_row(block) {
@@ -111,8 +118,10 @@ fn check_whole<T: Text>(
     alloc: Global,
     accepted: &mut Accepted,
     block: &BlockOf<T>,
+    words: usize,
 ) -> Result<(), RuleFault>
-    requires { KeepsTo6 block.now }
+    requires count { words ≡ words_of block.now }
+    requires kept { KeepsTo6 block.now }
     ensures valid { OnOk result (KeepsRules block.now) }
     ensures fault { IfErr result (IsRuleFault block.now) }
     ensures lists { IfErr result (λ e. e ≡ Memory → HasShortLists block.now → KeepsTo 9 block.now) }
@@ -120,7 +129,7 @@ fn check_whole<T: Text>(
     if let Some(row) = feature_row(alloc, accepted, block)? {
         return Err(RuleFault::At { rule: 7, row });
     }
-    if let Some(row) = dependency_row(alloc, block)? {
+    if let Some(row) = dependency_row(alloc, block, words)? {
         return Err(RuleFault::At { rule: 8, row });
     }
     if !has_one_root(block) {
@@ -146,8 +155,9 @@ pub(crate) fn first_broken<T: Text>(
     ensures memory { IfErr result (λ e. e ≡ Memory → KeepsTo6 block.now) }
     ensures lists { IfErr result (λ e. e ≡ Memory → HasShortLists block.now → KeepsTo 9 block.now) }
 {
-    match check_rows(alloc, accepted, block) {
-        Ok(()) => check_whole(alloc, accepted, block),
+    let words = words(block);
+    match check_rows(alloc, accepted, block, words) {
+        Ok(()) => check_whole(alloc, accepted, block, words),
         Err(fault) => Err(fault),
     }
 }

@@ -1,8 +1,9 @@
 ghost use Rattle.std.specs.Prelude.{◌≡◌, ◌↔◌, IsTrue, ℕ};
+ghost use Rattle.tb_conllu.specs.Words.{words_of};
 ghost use Rattle.tb_rules.specs.Rows.{EachRowPasses};
 ghost use Rattle.tb_rules.specs.Ids.{is_next_id, is_in_place, HasIds};
 
-use tb_conllu::{BlockOf, LineId, RowOf, Text, words};
+use tb_conllu::{BlockOf, LineId, RowOf, Text};
 
 /// The rows so far: how many words, and how many empty nodes since the last of them.
 #[derive(Clone, Copy)]
@@ -43,9 +44,9 @@ fn are_in_place<T: Text>(rows: &[RowOf<T>]) -> bool
 }
 
 /// Whether the rows have the right numbers: words 1 to n, at most 1000, and empty nodes after their words.
-pub(crate) fn has_ids<T: Text>(block: &BlockOf<T>) -> bool
+pub(crate) fn has_ids<T: Text>(block: &BlockOf<T>, words: usize) -> bool
+    requires { words ≡ words_of block.now }
     ensures { IsTrue result ↔ HasIds block.now }
 {
-    let n = words(block);
-    1 <= n && n <= 1000 && are_in_place(&block.rows)
+    1 <= words && words <= 1000 && are_in_place(&block.rows)
 }

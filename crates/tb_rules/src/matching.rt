@@ -4,7 +4,7 @@ ghost use Rattle.std.specs.Prelude.{◌≡◌, ◌≢◌, ◌↔◌, IsTrue, ◌
 ghost use Rattle.std.specs.Prelude.{MatchOption, chars, encode_utf8, encode_utf8_all, true, false};
 ghost use Rattle.tb_chars.specs.Spaces.{is_solid};
 ghost use Rattle.tb_rules.specs.Leading.{RangesLead, is_token_after};
-ghost use Rattle.tb_rules.specs.Expected.{gap_text, Refuses, Leaves};
+ghost use Rattle.tb_rules.specs.Expected.{gap_text, Takes};
 ghost use Rattle.tb_rules.specs.Restored.{is_token_id, form_and_space, token_text, text_of_rows, folded};
 
 use crate::covering::{comes_out, ranges_lead};
@@ -62,10 +62,25 @@ fn past_gap(expected: Expected<'_>) -> Option<&str>
     }
 }
 
+/// What is expected after a character or a text, if it comes next.
+macro_rules! take_next {
+    ($strip:ident, $expected:ident, $piece:ident) => {{
+        let Some(behind) = past_gap($expected) else {
+            return None;
+        };
+        let Some(rest) = $strip(behind, $piece) else {
+            return None;
+        };
+        Some(Expected {
+            rest,
+            begun: true,
+            gap: false,
+        })
+    }};
+}
+
 fn take_char(expected: Expected<'_>, c: char) -> Option<Expected<'_>>
-    ensures { MatchOption result (Refuses expected.entry.rest.now expected.entry.begun expected.entry.gap (c ∷ []))
-        (λ e. Leaves expected.entry.rest.now expected.entry.begun expected.entry.gap
-        (c ∷ []) e.rest.now e.begun e.gap) }
+    ensures { Takes expected.entry (c ∷ []) result }
 {
     if c.is_whitespace() {
         return Some(Expected {
@@ -74,43 +89,19 @@ fn take_char(expected: Expected<'_>, c: char) -> Option<Expected<'_>>
             gap: true,
         });
     }
-    let Some(behind) = past_gap(expected) else {
-        return None;
-    };
-    let Some(rest) = strip_char(behind, c) else {
-        return None;
-    };
-    Some(Expected {
-        rest,
-        begun: true,
-        gap: false,
-    })
+    take_next!(strip_char, expected, c)
 }
 
 /// Takes a text without white space in one piece.
 fn take_solid<'a>(expected: Expected<'a>, text: &str) -> Option<Expected<'a>>
     requires { is_solid text.now ≡ true }
-    ensures { MatchOption result (Refuses expected.entry.rest.now expected.entry.begun expected.entry.gap
-        (chars text.now)) (λ e.
-        Leaves expected.entry.rest.now expected.entry.begun expected.entry.gap (chars text.now) e.rest.now e.begun e.gap) }
+    ensures { Takes expected.entry (chars text.now) result }
 {
-    let Some(behind) = past_gap(expected) else {
-        return None;
-    };
-    let Some(rest) = strip_text(behind, text) else {
-        return None;
-    };
-    Some(Expected {
-        rest,
-        begun: true,
-        gap: false,
-    })
+    take_next!(strip_text, expected, text)
 }
 
 fn take_chars<'a>(expected: Expected<'a>, text: &str) -> Option<Expected<'a>>
-    ensures { MatchOption result (Refuses expected.entry.rest.now expected.entry.begun expected.entry.gap
-        (chars text.now)) (λ e.
-        Leaves expected.entry.rest.now expected.entry.begun expected.entry.gap (chars text.now) e.rest.now e.begun e.gap) }
+    ensures { Takes expected.entry (chars text.now) result }
 {
     let mut now = expected;
     for c in text.chars() {
@@ -123,22 +114,17 @@ fn take_chars<'a>(expected: Expected<'a>, text: &str) -> Option<Expected<'a>>
 }
 
 fn take_piece<'a>(expected: Expected<'a>, text: &str) -> Option<Expected<'a>>
-    ensures { MatchOption result (Refuses expected.entry.rest.now expected.entry.begun expected.entry.gap
-        (chars text.now)) (λ e.
-        Leaves expected.entry.rest.now expected.entry.begun expected.entry.gap (chars text.now) e.rest.now e.begun e.gap) }
+    ensures { Takes expected.entry (chars text.now) result }
 {
     if is_solid_text(text) {
-        take_solid(expected, text)
-    } else {
-        take_chars(expected, text)
+        return take_solid(expected, text);
     }
+    take_chars(expected, text)
 }
 
 /// Takes the text between spaces in one piece.
 fn take_spaced<'a>(expected: Expected<'a>, text: &str) -> Option<Expected<'a>>
-    ensures { MatchOption result (Refuses expected.entry.rest.now expected.entry.begun expected.entry.gap
-        (chars text.now)) (λ e.
-        Leaves expected.entry.rest.now expected.entry.begun expected.entry.gap (chars text.now) e.rest.now e.begun e.gap) }
+    ensures { Takes expected.entry (chars text.now) result }
 {
     let mut now = expected;
     let mut left = text;
@@ -156,21 +142,16 @@ fn take_spaced<'a>(expected: Expected<'a>, text: &str) -> Option<Expected<'a>>
 }
 
 fn take_text<'a>(expected: Expected<'a>, text: &str) -> Option<Expected<'a>>
-    ensures { MatchOption result (Refuses expected.entry.rest.now expected.entry.begun expected.entry.gap
-        (chars text.now)) (λ e.
-        Leaves expected.entry.rest.now expected.entry.begun expected.entry.gap (chars text.now) e.rest.now e.begun e.gap) }
+    ensures { Takes expected.entry (chars text.now) result }
 {
     if is_solid_text(text) {
-        take_solid(expected, text)
-    } else {
-        take_spaced(expected, text)
+        return take_solid(expected, text);
     }
+    take_spaced(expected, text)
 }
 
 fn take_row<'a, T: Text>(expected: Expected<'a>, row: &RowOf<T>) -> Option<Expected<'a>>
-    ensures { MatchOption result (Refuses expected.entry.rest.now expected.entry.begun expected.entry.gap
-        (form_and_space row.now)) (λ e.
-        Leaves expected.entry.rest.now expected.entry.begun expected.entry.gap (form_and_space row.now) e.rest.now e.begun e.gap) }
+    ensures { Takes expected.entry (form_and_space row.now) result }
 {
     let Some(after) = take_text(expected, row.form.text()) else {
         return None;
@@ -190,9 +171,7 @@ fn take_token<'a, T: Text>(
     end: u32,
 ) -> Option<Expected<'a>>
     requires { lead ≡ true → is_token_id rows.now row.now.id ≡ is_token_after end row.now.id }
-    ensures { MatchOption result (Refuses expected.entry.rest.now expected.entry.begun expected.entry.gap
-        (token_text rows.now row.now)) (λ e.
-        Leaves expected.entry.rest.now expected.entry.begun expected.entry.gap (token_text rows.now row.now) e.rest.now e.begun e.gap) }
+    ensures { Takes expected.entry (token_text rows.now row.now) result }
 {
     if comes_out(row.id, rows, lead, end) {
         take_row(expected, row)
@@ -207,9 +186,7 @@ fn take_rows<'a, T: Text>(
     lead: bool,
 ) -> Option<Expected<'a>>
     requires { lead ≡ true → RangesLead rows.now }
-    ensures { MatchOption result (Refuses expected.entry.rest.now expected.entry.begun expected.entry.gap
-        (text_of_rows rows.now)) (λ e.
-        Leaves expected.entry.rest.now expected.entry.begun expected.entry.gap (text_of_rows rows.now) e.rest.now e.begun e.gap) }
+    ensures { Takes expected.entry (text_of_rows rows.now) result }
 {
     let mut now = expected;
     let mut end: u32 = 0;

@@ -6,6 +6,7 @@ ghost use Rattle.tb_syntax.specs.Pattern.{both_of, either_of};
 ghost use Rattle.tb_syntax.specs.Tests.{every, whole, feature, denied_times};
 
 use crate::lexeme::{Attr, Flag};
+use crate::lone::lone;
 use std::alloc::{AllocError, Global};
 
 /// A literal of a query.
@@ -73,25 +74,21 @@ pub(crate) fn denied(
 }
 
 /// The conjunction of the parts; the part itself where there is one.
-pub(crate) fn both_of(mut parts: Vec<Expr<Literal>>) -> Expr<Literal>
+pub(crate) fn both_of(parts: Vec<Expr<Literal>>) -> Expr<Literal>
     ensures { test result ≡ both_of (map test parts.items) }
 {
-    if parts.len() == 1 {
-        if let Some(part) = parts.pop() {
-            return part;
-        }
+    match lone(parts) {
+        Ok(part) => part,
+        Err(parts) => Expr::Both(parts),
     }
-    Expr::Both(parts)
 }
 
 /// The disjunction of the parts; the part itself where there is one.
-pub(crate) fn either_of(mut parts: Vec<Expr<Literal>>) -> Expr<Literal>
+pub(crate) fn either_of(parts: Vec<Expr<Literal>>) -> Expr<Literal>
     ensures { test result ≡ either_of (map test parts.items) }
 {
-    if parts.len() == 1 {
-        if let Some(part) = parts.pop() {
-            return part;
-        }
+    match lone(parts) {
+        Ok(part) => part,
+        Err(parts) => Expr::Either(parts),
     }
-    Expr::Either(parts)
 }

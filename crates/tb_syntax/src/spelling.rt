@@ -10,48 +10,37 @@ ghost use Rattle.tb_syntax.specs.Spelling.{Starts, IsStray};
 
 use crate::lexeme::{Attr, Lexeme};
 
+/// The value beside the first name that the letters spell, else the last one.
+macro_rules! spelled {
+    ($letters:ident, $($name:literal: $value:expr,)+ else $other:expr) => {{
+        $(if $letters == $name.as_slice() {
+            return Some($value);
+        })+
+        $other
+    }};
+}
+
 /// The column that letters name.
-fn column(letters: &[u8]) -> Option<Attr>
+pub fn column(letters: &[u8]) -> Option<Attr>
     ensures { result ≡ column letters.now }
 {
-    if letters == b"word".as_slice() {
-        return Some(Attr::Form);
-    }
-    if letters == b"lemma".as_slice() {
-        return Some(Attr::Lemma);
-    }
-    if letters == b"upos".as_slice() {
-        return Some(Attr::Upos);
-    }
-    if letters == b"xpos".as_slice() {
-        return Some(Attr::Xpos);
-    }
-    if letters == b"feats".as_slice() {
-        return Some(Attr::Feats);
-    }
-    if letters == b"deprel".as_slice() {
-        return Some(Attr::Deprel);
-    }
-    None
+    spelled!(
+        letters,
+        b"word": Attr::Form, b"lemma": Attr::Lemma, b"upos": Attr::Upos, b"xpos": Attr::Xpos,
+        b"feats": Attr::Feats, b"deprel": Attr::Deprel,
+        else None
+    )
 }
 
 /// The word that letters spell.
 fn word(letters: &[u8]) -> Option<Lexeme>
     ensures { result ≡ word letters.now }
 {
-    if letters == b"contains".as_slice() {
-        return Some(Lexeme::Contains);
-    }
-    if letters == b"within".as_slice() {
-        return Some(Lexeme::Within);
-    }
-    if letters == b"s".as_slice() {
-        return Some(Lexeme::Sentence);
-    }
-    match column(letters) {
-        Some(attr) => Some(Lexeme::Name(attr)),
-        None => None,
-    }
+    spelled!(
+        letters,
+        b"contains": Lexeme::Contains, b"within": Lexeme::Within, b"s": Lexeme::Sentence,
+        else match column(letters) { Some(attr) => Some(Lexeme::Name(attr)), None => None }
+    )
 }
 
 /// The number that digits write, if it has no leading zero.
@@ -121,17 +110,24 @@ fn is_quote(byte: u8) -> bool
     matches!(byte, b'"' | b'\'')
 }
 
+/// The length of the run of bytes of a kind with which the text begins.
+macro_rules! run_length {
+    ($text:ident, $is_of_kind:ident) => {{
+        for (i, byte) in $text.iter().enumerate() {
+            if !byte.$is_of_kind() {
+                return i;
+            }
+        }
+        $text.len()
+    }};
+}
+
 /// The length of the run of letters with which the text begins.
 fn letters(text: &[u8]) -> usize
     ensures length { result ≡ prefix_len is_ascii_alphabetic text.now }
     ensures bound { result ≤ length text.now }
 {
-    for (i, byte) in text.iter().enumerate() {
-        if !byte.is_ascii_alphabetic() {
-            return i;
-        }
-    }
-    text.len()
+    run_length!(text, is_ascii_alphabetic)
 }
 
 /// The length of the run of digits with which the text begins.
@@ -139,12 +135,7 @@ fn digits(text: &[u8]) -> usize
     ensures length { result ≡ prefix_len is_ascii_digit text.now }
     ensures bound { result ≤ length text.now }
 {
-    for (i, byte) in text.iter().enumerate() {
-        if !byte.is_ascii_digit() {
-            return i;
-        }
-    }
-    text.len()
+    run_length!(text, is_ascii_digit)
 }
 
 /// How many bytes a literal has after its opening quote, with the closing one, if there is one. A quote of the same
@@ -172,14 +163,21 @@ pub struct Found {
     pub length: usize,
 }
 
+/// The lexeme that so many bytes are, if they are one.
+fn found_of(lexeme: Option<Lexeme>, length: usize) -> Option<Found>
+    ensures { result ≡ option_map (λ l. record { lexeme = l; length = length }) lexeme }
+{
+    let lexeme = lexeme?;
+    Some(Found { lexeme, length })
+}
+
 /// The word at the beginning of the text.
 fn word_at(text: &[u8]) -> Option<Found>
     ensures value { found text.now result ≡ cut word (prefix_len is_ascii_alphabetic text.now) text.now }
     ensures bound { IfSome result (λ f. f.length ≤ length text.now) }
 {
     let length = letters(text);
-    let lexeme = word(&text[..length])?;
-    Some(Found { lexeme, length })
+    found_of(word(&text[..length]), length)
 }
 
 /// The number at the beginning of the text.
@@ -188,8 +186,7 @@ fn number_at(text: &[u8]) -> Option<Found>
     ensures bound { IfSome result (λ f. f.length ≤ length text.now) }
 {
     let length = digits(text);
-    let lexeme = number(&text[..length])?;
-    Some(Found { lexeme, length })
+    found_of(number(&text[..length]), length)
 }
 
 /// The lexeme of one or two marks at the beginning of the text.

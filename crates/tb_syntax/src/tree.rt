@@ -4,6 +4,7 @@ ghost use Rattle.std.specs.Prelude.{◌≡◌, None, map, IfOk, IsOk};
 ghost use Rattle.tb_match.specs.Trees.{tok, tree};
 ghost use Rattle.tb_syntax.specs.Pattern.{cat_of, alt_of, repeated_within};
 
+use crate::lone::lone;
 use std::alloc::{AllocError, Global};
 use tb_match::Pat;
 
@@ -30,25 +31,21 @@ pub(crate) fn repeated(
 }
 
 /// The sequence of the parts; the part itself where there is one.
-pub(crate) fn cat_of(mut parts: Vec<Pat>) -> Pat
+pub(crate) fn cat_of(parts: Vec<Pat>) -> Pat
     ensures { tree result ≡ cat_of (map tree parts.items) }
 {
-    if parts.len() == 1 {
-        if let Some(part) = parts.pop() {
-            return part;
-        }
+    match lone(parts) {
+        Ok(part) => part,
+        Err(parts) => Pat::Cat(parts),
     }
-    Pat::Cat(parts)
 }
 
 /// The choice between the parts; the part itself where there is one.
-pub(crate) fn alt_of(mut parts: Vec<Pat>) -> Pat
+pub(crate) fn alt_of(parts: Vec<Pat>) -> Pat
     ensures { tree result ≡ alt_of (map tree parts.items) }
 {
-    if parts.len() == 1 {
-        if let Some(part) = parts.pop() {
-            return part;
-        }
+    match lone(parts) {
+        Ok(part) => part,
+        Err(parts) => Pat::Alt(parts),
     }
-    Pat::Alt(parts)
 }

@@ -15,8 +15,8 @@ loop-rule-preserved-then-not-is_asked g c =
     subst (λ (rs : List Rule). AreBrokenOf rs b c.loop-rule.broken.items) (sym (more_rules c.args.rules.now i SentId c.loop-rule-test.true))
     (next_kept (map rule_of (take i c.args.rules.now)) rule b c.loop-rule.broken.items c.loop-rule.invariant (λ asked. absurd (unasked asked)))
 
-pub broken_row-requires : goal.broken_row-requires
-broken_row-requires g c = (c.is_asked.ensures c.args.block.now c.has_text-text.ensures c.has_ids-ids.ensures).0 c.if-not-is_asked.false
+pub broken_row-requires-clause-asked : goal.broken_row-requires-clause-asked
+broken_row-requires-clause-asked g c = (c.is_asked.ensures c.args.block.now c.has_text-text.ensures c.has_ids-ids.ensures).0 c.if-not-is_asked.false
 
 pub loop-rule-preserved : goal.loop-rule-preserved
 loop-rule-preserved g c =

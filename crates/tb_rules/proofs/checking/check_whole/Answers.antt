@@ -10,29 +10,29 @@ pub returns-in-Some-clause-fault : goal.returns-in-Some-clause-fault
 returns-in-Some-clause-fault g c =
     let b = c.args.block.now in
     let first = rw c.in-Some.is at c.in_ok-row.ensures.value in
-    broken_next b features 6 c.in-Some.row refl c.requires (λ k. passes _ b.rows c.in-Some.row first k) first
+    broken_next b features 6 c.in-Some.row refl c.requires.kept (λ k. passes _ b.rows c.in-Some.row first k) first
 
-pub dependency_row-requires : goal.dependency_row-requires
-dependency_row-requires g c = c.requires ids (omega arith)
+pub dependency_row-requires-clause-ids : goal.dependency_row-requires-clause-ids
+dependency_row-requires-clause-ids g c = c.requires.kept ids (omega arith)
 
 pub returns-in-Some-2-clause-fault : goal.returns-in-Some-2-clause-fault
 returns-in-Some-2-clause-fault g c =
     let b = c.args.block.now in
-    let seven = one_kept b features 6 refl c.requires (rw c.in_default.is at c.in_ok-row.ensures.value) in
+    let seven = one_kept b features 6 refl c.requires.kept (rw c.in_default.is at c.in_ok-row.ensures.value) in
     let first = rw c.in-Some-2.is at c.in_ok-row-2.ensures.value in
     broken_next b dependencies 7 c.in-Some-2.row refl seven (λ k. passes _ b.rows c.in-Some-2.row first k) first
 
 pub returns-then-not-has_one_root-clause-fault : goal.returns-then-not-has_one_root-clause-fault
 returns-then-not-has_one_root-clause-fault g c =
     let b = c.args.block.now in
-    let seven = one_kept b features 6 refl c.requires (rw c.in_default.is at c.in_ok-row.ensures.value) in
+    let seven = one_kept b features 6 refl c.requires.kept (rw c.in_default.is at c.in_ok-row.ensures.value) in
     let eight = one_kept b dependencies 7 refl seven (rw c.in_default-2.is at c.in_ok-row-2.ensures.value) in
     broken_next b one_root 8 0 refl eight (iff_false c.has_one_root.ensures c.if-not-has_one_root.true) refl
 
 pub returns-then-not-branch-clause-fault : goal.returns-then-not-branch-clause-fault
 returns-then-not-branch-clause-fault g c =
     let b = c.args.block.now in
-    let seven = one_kept b features 6 refl c.requires (rw c.in_default.is at c.in_ok-row.ensures.value) in
+    let seven = one_kept b features 6 refl c.requires.kept (rw c.in_default.is at c.in_ok-row.ensures.value) in
     let eight = one_kept b dependencies 7 refl seven (rw c.in_default-2.is at c.in_ok-row-2.ensures.value) in
     let nine = one_kept b one_root 8 refl eight (c.has_one_root.ensures.0 c.if-not-has_one_root.false) in
     broken_next b tree 9 0 refl nine (iff_false c.in_ok-has_tree.ensures c.if-not-branch.true) refl
@@ -40,7 +40,7 @@ returns-then-not-branch-clause-fault g c =
 pub returns-then-not-branch-2-clause-fault : goal.returns-then-not-branch-2-clause-fault
 returns-then-not-branch-2-clause-fault g c =
     let b = c.args.block.now in
-    let seven = one_kept b features 6 refl c.requires (rw c.in_default.is at c.in_ok-row.ensures.value) in
+    let seven = one_kept b features 6 refl c.requires.kept (rw c.in_default.is at c.in_ok-row.ensures.value) in
     let eight = one_kept b dependencies 7 refl seven (rw c.in_default-2.is at c.in_ok-row-2.ensures.value) in
     let nine = one_kept b one_root 8 refl eight (c.has_one_root.ensures.0 c.if-not-has_one_root.false) in
     let ten = one_kept b tree 9 refl nine (c.in_ok-has_tree.ensures.0 c.if-not-branch.false) in
@@ -49,7 +49,7 @@ returns-then-not-branch-2-clause-fault g c =
 pub returns-clause-valid : goal.returns-clause-valid
 returns-clause-valid g c =
     let b = c.args.block.now in
-    let seven = one_kept b features 6 refl c.requires (rw c.in_default.is at c.in_ok-row.ensures.value) in
+    let seven = one_kept b features 6 refl c.requires.kept (rw c.in_default.is at c.in_ok-row.ensures.value) in
     let eight = one_kept b dependencies 7 refl seven (rw c.in_default-2.is at c.in_ok-row-2.ensures.value) in
     let nine = one_kept b one_root 8 refl eight (c.has_one_root.ensures.0 c.if-not-has_one_root.false) in
     let ten = one_kept b tree 9 refl nine (c.in_ok-has_tree.ensures.0 c.if-not-branch.false) in
@@ -68,7 +68,7 @@ returns-in_err-row-2-clause-lists g c =
 pub returns-in_err-has_tree-clause-lists : goal.returns-in_err-has_tree-clause-lists
 returns-in_err-has_tree-clause-lists g c =
     let b = c.args.block.now in
-    let seven = one_kept b features 6 refl c.requires (rw c.in_default.is at c.in_ok-row.ensures.value) in
+    let seven = one_kept b features 6 refl c.requires.kept (rw c.in_default.is at c.in_ok-row.ensures.value) in
     let eight = one_kept b dependencies 7 refl seven (rw c.in_default-2.is at c.in_ok-row-2.ensures.value) in
     let nine = one_kept b one_root 8 refl eight (c.has_one_root.ensures.0 c.if-not-has_one_root.false) in
     let p = err_from_is_err_and c.from_residual-in_err-has_tree.result c.from_residual-in_err-has_tree.ensures.1 in
@@ -77,7 +77,7 @@ returns-in_err-has_tree-clause-lists g c =
 pub returns-in_err-is_restored-clause-lists : goal.returns-in_err-is_restored-clause-lists
 returns-in_err-is_restored-clause-lists g c =
     let b = c.args.block.now in
-    let seven = one_kept b features 6 refl c.requires (rw c.in_default.is at c.in_ok-row.ensures.value) in
+    let seven = one_kept b features 6 refl c.requires.kept (rw c.in_default.is at c.in_ok-row.ensures.value) in
     let eight = one_kept b dependencies 7 refl seven (rw c.in_default-2.is at c.in_ok-row-2.ensures.value) in
     let nine = one_kept b one_root 8 refl eight (c.has_one_root.ensures.0 c.if-not-has_one_root.false) in
     let p = err_from_is_err_and c.from_residual-in_err-is_restored.result c.from_residual-in_err-is_restored.ensures.1 in

@@ -7,7 +7,7 @@ use Rattle.tb_syntax.proofs.reading.read.Goals as goal
 pub scan-requires : goal.scan-requires
 scan-requires c =
     let n = short c.as_bytes-bytes.result.now c.lex-lexed.result.lexemes.items c.as_slice-lexemes.result.now c.lex-lexed.result.spans.items
-    c.if-bytes-gt-LONGEST.false c.lex-lexed.ensures c.as_slice-lexemes.ensures.value in
+    (omega (arith, c.if-bytes-gt-LONGEST.false)) c.lex-lexed.ensures c.as_slice-lexemes.ensures.value in
     omega arith
 
 pub returns-in-Err-clause-fault : goal.returns-in-Err-clause-fault
@@ -19,7 +19,7 @@ returns-in-Err-clause-fault c =
 pub test_limits-requires : goal.test_limits-requires
 test_limits-requires c =
     let n = short c.as_bytes-bytes.result.now c.lex-lexed.result.lexemes.items c.as_slice-lexemes.result.now c.lex-lexed.result.spans.items
-    c.if-bytes-gt-LONGEST.false c.lex-lexed.ensures c.as_slice-lexemes.ensures.value in
+    (omega (arith, c.if-bytes-gt-LONGEST.false)) c.lex-lexed.ensures c.as_slice-lexemes.ensures.value in
     omega arith
 
 pub returns-in_err-test_limits-clause-fault : goal.returns-in_err-test_limits-clause-fault
