@@ -2,7 +2,7 @@
 
 use crate::telling::{assert_holds, text_of};
 use std::process::Abort;
-use tb_report::trees_page;
+use tb_assets::trees_page;
 
 /// Two rows with the signs that mean something in HTML.
 const ROWS: &str = "# text = a < b & </script>\n1\t<\t&\t\"\t'\n";

@@ -13,6 +13,8 @@ mod disk_tests;
 #[cfg(test)]
 mod files;
 #[cfg(test)]
+mod line_tests;
+#[cfg(test)]
 mod list_tests;
 #[cfg(test)]
 mod script_tests;

@@ -4,7 +4,8 @@
 use sqlite::MemStore;
 use std::alloc::Global;
 use std::process::Abort;
-use tb_answer::{Broken, answer, answer_all};
+use tb_answer::{Broken, answer, answer_all, run_line_from};
+use tb_cli::Line;
 use tb_conllu::{Sink, Source};
 use tb_core::Limits;
 use tb_http::{Routes, Status};
@@ -49,6 +50,16 @@ impl Server {
         out: &mut W,
     ) -> Result<(), Broken> {
         answer_all(self.alloc, &self.routes, &mut self.desk, requests, out)
+    }
+
+    /// Reads the body of a line, and runs the line. Returns its exit status.
+    pub(crate) fn run_line<R: Source, W: Sink>(
+        &mut self,
+        line: &Line,
+        reader: &mut R,
+        out: &mut W,
+    ) -> u8 {
+        run_line_from(self.alloc, line, reader, &mut self.desk, out)
     }
 
     /// How many commands the desk has accepted.
