@@ -13,6 +13,11 @@ mod Numbers
 mod Orders
 mod PairSteps
 mod Parts
+mod QueryBraces
+mod QueryChars
+mod QueryCuts
+mod QueryFaults
+mod QueryScan
 mod RuleSteps
 mod Spellings
 mod Steps

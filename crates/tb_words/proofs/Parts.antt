@@ -21,6 +21,11 @@ pub back_got : (text : List ℕ) (n : ℕ) (r : Option (Bor (List ℕ))) (none :
 back_got text n None none at got = absurd (got at.0 at (IsCharBoundary-end text))
 back_got text n (Some x) none at got = got.0 ∙ take_rest text n
 
+pub part_got : (text : List ℕ) (m n : ℕ) (r : Option (Bor (List ℕ))) (none : Bor (List ℕ)) → m ≤ n → IsCharBoundary text m
+    → IsCharBoundary text n → GetsRange text m n r → (unwrap_or r none).now ≡ take (n - m) (drop m text)
+part_got text m n None none within start end got = absurd (got within start end)
+part_got text m n (Some x) none within start end got = got.0
+
 -- a letter, a digit or an underscore is one byte
 one_byte : (b : ℕ) → is_no_letter b ≡ false → b < 128
 one_byte b is = grind (arith, nat_tests)

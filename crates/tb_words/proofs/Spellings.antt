@@ -1,6 +1,6 @@
 -- Words that spaces join, and the common beginning of two texts.
 use denote.Ref.{Bor}
-use Rattle.std.proofs.Common.{◌≡◌, ◌∙◌, ◌≢◌, ◌⊎◌, ◌++◌, ◌∷◌, [], ◌+◌, ◌-◌, ◌<◌, ◌≤◌, ◌==◌, ℕ, zero, suc, List, None, Option, Some, add-one, ap, append_assoc, arith, IfSome, inl, inr, length, length-append, false, map, refl, slice_index, true, Bool, subst, sym}
+use Rattle.std.proofs.Common.{◌≡◌, ◌∙◌, ◌≢◌, ◌⊎◌, ◌++◌, ◌∷◌, [], ◌+◌, ◌-◌, ◌<◌, ◌≤◌, ◌==◌, ℕ, zero, suc, List, None, Option, Some, add-one, ap, append_assoc, arith, IfSome, inl, inr, length, length-append, lit<, false, map, refl, slice_index, true, Bool, subst, sym}
 use Rattle.std.proofs.lemmas.Bool.{ne_eqb, true≢false}
 use Rattle.std.proofs.lemmas.Str.{IsCharBoundary-after_ascii, IsCharBoundary-start}
 use Rattle.std.specs.Iterator.{Yields}
@@ -45,16 +45,20 @@ one_word_more (x ∷ y ∷ xs) word some =
 
 -- ---- places
 
--- a text may be cut after a space
+-- a text may be cut after an ASCII byte
+pub cut_after : (byte : ℕ) (text : List ℕ) (at start : ℕ) → byte < 128 → IsUtf8 text → at ≤ length text → start ≤ at
+    → (start ≡ 0) ⊎ (slice_index text (start - 1) ≡ byte) → IsCharBoundary text start
+cut_after byte text at zero small utf8 within before there = IsCharBoundary-start text utf8
+cut_after byte text at (suc k) small utf8 within before (inl none) = absurd (omega (arith, none))
+cut_after byte text at (suc k) small utf8 within before (inr there) =
+    let same : suc k - 1 ≡ k = omega arith in
+    let here : slice_index text k ≡ byte = ap (λ (n : ℕ). slice_index text n) (sym same) ∙ there in
+    subst (λ (n : ℕ). IsCharBoundary text n) (add-one k)
+    (IsCharBoundary-after_ascii text k utf8 (omega (arith, within, before)) (omega (arith, here, small)))
+
 pub cut_at_word : (text : List ℕ) (at start : ℕ) → IsUtf8 text → at ≤ length text → start ≤ at
     → (start ≡ 0) ⊎ (slice_index text (start - 1) ≡ 32) → IsCharBoundary text start
-cut_at_word text at zero utf8 within before space = IsCharBoundary-start text utf8
-cut_at_word text at (suc k) utf8 within before (inl none) = absurd (omega (arith, none))
-cut_at_word text at (suc k) utf8 within before (inr space) =
-    let same : suc k - 1 ≡ k = omega arith in
-    let here : slice_index text k ≡ 32 = ap (λ (n : ℕ). slice_index text n) (sym same) ∙ space in
-    subst (λ (n : ℕ). IsCharBoundary text n) (add-one k)
-    (IsCharBoundary-after_ascii text k utf8 (omega (arith, within, before)) (omega (arith, here)))
+cut_at_word text at start utf8 within before space = cut_after 32 text at start (lit< tt) utf8 within before space
 
 -- the same space is in both texts
 pub space_too : (first second : List ℕ) (at start : ℕ) → ((k : ℕ) → k < at → slice_index first k ≡ slice_index second k)

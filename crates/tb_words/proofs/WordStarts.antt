@@ -1,20 +1,20 @@
--- The place after the last space of what is before a place.
-use Rattle.std.proofs.Common.{◌≡◌, ◌∙◌, ◌+◌, ◌-◌, ◌^◌, ◌<◌, ◌≤◌, ℕ, List, Option, Some, None, MatchOption, ap, arith, get_or, inl, inr, length, length-take-le, lit<, min, refl, slice_index, sym, take}
+-- The place after the last byte of a kind of what is before a place.
+use Rattle.std.proofs.Common.{◌≡◌, ◌∙◌, ◌+◌, ◌-◌, ◌^◌, ◌<◌, ◌≤◌, ℕ, List, Option, Some, None, MatchOption, ap, arith, get_or, inl, inr, length, length-take-le, min, refl, slice_index, sym, take}
 use Rattle.std.proofs.lemmas.List.{get_or-take}
 use Rattle.std.proofs.lemmas.Str.Pattern.{rfind_char}
 use Rattle.std.specs.Str.{IsCharBoundary}
 use Rattle.std.specs.Str.Pattern.{RFindsChar}
-use Rattle.tb_words.specs.Spelled.{IsWordStart}
+use Rattle.tb_words.specs.Spelled.{IsAfterLast}
 
-abbrev pub Found : List ℕ → Option ℕ → Type 0
-Found front place =
-    MatchOption place (RFindsChar 32 front None) (λ i. (j : ℕ) × RFindsChar 32 front (Some (i, j)) × (i ≤ j)
+abbrev pub Found : (byte : ℕ) → List ℕ → Option ℕ → Type 0
+Found byte front place =
+    MatchOption place (RFindsChar byte front None) (λ i. (j : ℕ) × RFindsChar byte front (Some (i, j)) × (i ≤ j)
     × IsCharBoundary front i × IsCharBoundary front j)
 
-pub no_space : (text front : List ℕ) (at : ℕ) (place : Option ℕ) → at ≤ length text → front ≡ take at text → place ≡ None
-    → Found front place → IsWordStart text at 0
-no_space text front at place within is none found =
-    let far = rw none at (rfind_char 32 front place found (lit< tt)) in (
+pub after_none : (byte : ℕ) (text front : List ℕ) (at : ℕ) (place : Option ℕ) → byte < 128 → at ≤ length text → front ≡ take at text
+    → place ≡ None → Found byte front place → IsAfterLast byte text at 0
+after_none byte text front at place small within is none found =
+    let far = rw none at (rfind_char byte front place found small) in (
       omega arith,
       inl refl,
       λ k start less.
@@ -23,10 +23,11 @@ no_space text front at place within is none found =
           λ e. far k (omega (arith, short, less)) (here ∙ e),
     )
 
-pub after_space : (text front : List ℕ) (at : ℕ) (place : Option ℕ) (before start : ℕ) → at ≤ length text → front ≡ take at text
-    → place ≡ Some before → Found front place → start ≡ min (before + 1) (2 ^ 64 - 1) → at < 2 ^ 64 → IsWordStart text at start
-after_space text front at place before start within is some found start_is fits =
-    let near = rw some at (rfind_char 32 front place found (lit< tt)) in
+pub after_one : (byte : ℕ) (text front : List ℕ) (at : ℕ) (place : Option ℕ) (before start : ℕ) → byte < 128 → at ≤ length text
+    → front ≡ take at text → place ≡ Some before → Found byte front place → start ≡ min (before + 1) (2 ^ 64 - 1) → at < 2 ^ 64
+    → IsAfterLast byte text at start
+after_one byte text front at place before start small within is some found start_is fits =
+    let near = rw some at (rfind_char byte front place found small) in
     let short : length front ≡ at = ap (λ (t : List ℕ). length t) is ∙ length-take-le at text within in
     let next : start ≡ before + 1 = omega (arith, near.0, short, within, start_is, fits) in
     let same : start - 1 ≡ before = omega (arith, next) in

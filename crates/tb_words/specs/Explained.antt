@@ -1,7 +1,6 @@
--- Between crates: no contract of a front door cites a definition of this module.
 -- What explains a reply: a sentence, what stands before it, and the page that says more.
 use Rattle.std.specs.Prelude.{◌≡◌, ◌⊎◌, ◌++◌, ℕ, List, codes, decimal, Bool, true, false, Option, Some, None, IfSome}
-use Rattle.std.specs.Prelude.{drop, take}
+use Rattle.std.specs.Prelude.{drop, MatchOption, take}
 use Rattle.std.specs.Str.{IsCharBoundary, trim_end}
 use Rattle.std.specs.String.{string_bytes}
 use Rattle.tb_core.specs.declared.kinds.State.{State}
@@ -15,8 +14,11 @@ use Rattle.tb_http.specs.declared.replies.Reply.TheVariants as reply
 use Rattle.tb_query.specs.declared.fault.QueryFault.{QueryFault}
 use Rattle.tb_query.specs.declared.fault.QueryFault.TheVariants as fault
 use Rattle.tb_words.specs.QueryGuesses.{guess}
+use Rattle.tb_words.specs.QueryLiterals.{KnowsLiterals, is_in, literal_numbered, written}
+use Rattle.tb_words.specs.QueryPlaces.{IsFirstWrong, IsNoneWrong, IsPicture, SaysPattern, open_at}
 use Rattle.tb_words.specs.QueryWords.{character_number}
 use Rattle.tb_words.specs.Shown.{excerpt}
+use Rattle.tb_words.specs.declared.literals.Literal.{Literal}
 use Rattle.tb_words.specs.declared.syntax.Wrong.{Wrong}
 use Rattle.tb_words.specs.declared.refusals.Asked.{Asked}
 use Rattle.tb_words.specs.declared.refusals.Asked.TheVariants as asked
@@ -26,7 +28,8 @@ use Rattle.tb_words.specs.declared.sentences.TheConstants.{CORRECT_STATE, PULL_S
 use Rattle.tb_words.specs.declared.sentences.TheConstants.{EMPTY, NOT_ONE, SENT_ID_CHANGED, TEXT_CHANGED, NOTHING_CHANGED}
 use Rattle.tb_words.specs.declared.sentences.TheConstants.{NAME_TAKEN, SENT_ID_TAKEN, FULL, NO_SUCH_REVISION, SYNTAX}
 use Rattle.tb_words.specs.declared.sentences.TheConstants.{PULLED, NOT_PULLED, TOO_MANY_HITS, LONG, DEVICE, DESK}
-use Rattle.tb_words.specs.declared.sentences.TheConstants.{TOO_LONG, TOO_MANY, TOO_DEEP, PATTERN_LARGE, MEMORY}
+use Rattle.tb_words.specs.declared.sentences.TheConstants.{TOO_LONG, TOO_MANY, TOO_DEEP, MEMORY}
+use Rattle.tb_words.specs.declared.sentences.TheConstants.{PATTERN_LARGE, PATTERN_OTHER, REPEAT_ABOVE}
 use Rattle.tb_words.specs.declared.words.Page.{Page}
 use Rattle.tb_words.specs.declared.words.Page.TheVariants.{Code, Rule, Queries, Batches}
 use Rattle.tb_words.specs.declared.words.Words.{Words}
@@ -128,25 +131,52 @@ form_place form = codes "`" ++ excerpt form ++ codes "`"
 abbrev pub query_place : (text : List ℕ) → (at : ℕ) → List ℕ
 query_place text at = codes "query, character " ++ decimal (character_number text at)
 
--- What is most likely meant at a byte of a text. `is_closed` says whether a literal that ends is there.
-abbrev pub IsSyntaxAt : (text : List ℕ) → (at : ℕ) → Words → Type 0
-IsSyntaxAt text at words =
-    IsCharBoundary text at → BeginWith words (query_place text at)
-    × ((wrong : Wrong) × (is_closed : Bool) × (wrong.before.now ≡ trim_end (take at text))
-    × (wrong.rest.now ≡ drop at text) × (words.sentence.now ≡ guess wrong is_closed))
+-- the words name this character, and have the picture of its line
+abbrev pub PointAt : Words → (text : List ℕ) → (at : ℕ) → Type 0
+PointAt words text at =
+    BeginWith words (query_place text at) × IfSome words.picture (λ picture. IsPicture text at (string_bytes picture))
 
--- the same, of words that name no page
-abbrev pub SaysSyntax : (text : List ℕ) → (at : ℕ) → Words → Type 0
-SaysSyntax text at words = (words.page ≡ None) × IsSyntaxAt text at words
+-- the words have this sentence, and name no place
+abbrev pub SaysAlone : Words → (text : List ℕ) → Type 0
+SaysAlone words text = (words.sentence.now ≡ text) × (words.place ≡ None) × (words.picture ≡ None)
+
+-- a text is so before a byte and after it, and so many brackets and parentheses are open there
+abbrev pub IsWrongAt : (text : List ℕ) → List Literal → (at : ℕ) → Wrong → Type 0
+IsWrongAt text ls at wrong =
+    (wrong.before.now ≡ trim_end (take at text)) × (wrong.rest.now ≡ drop at text)
+    × (wrong.brackets ≡ open_at text ls at 91 93) × (wrong.parentheses ≡ open_at text ls at 40 41)
+
+-- what is most likely meant at a byte of a text with these literals
+abbrev pub IsGuess : (text : List ℕ) → List Literal → (at : ℕ) → (said : List ℕ) → Type 0
+IsGuess text ls at said = (wrong : Wrong) × IsWrongAt text ls at wrong × (said ≡ guess wrong (is_in ls at))
+
+-- the first repetition with wrong numbers is told at its brace
+abbrev pub SaysRepetition : (text : List ℕ) → List Literal → Words → Type 0
+SaysRepetition text ls words =
+    ((at : ℕ) × IsFirstWrong text ls at words.sentence.now × PointAt words text at)
+    ⊎ (IsNoneWrong text ls × SaysAlone words REPEAT_ABOVE.now)
+
+-- the literal with this number is told at its beginning
+abbrev pub SaysLiteral : (text : List ℕ) → List Literal → (number : ℕ) → Words → Type 0
+SaysLiteral text ls number words =
+    MatchOption (literal_numbered ls number) (SaysAlone words PATTERN_OTHER.now)
+    (λ l. SaysPattern (written text l) words.sentence.now × PointAt words text l.start)
+
+-- what is said of a fault of a text with these literals
+abbrev pub SaysFault : (text : List ℕ) → List Literal → QueryFault → Words → Type 0
+SaysFault text ls fault.TooLong words = SaysAlone words TOO_LONG.now
+SaysFault text ls (fault.Syntax at) words =
+    IsCharBoundary text at → IsGuess text ls at words.sentence.now × PointAt words text at
+SaysFault text ls fault.TooMany words = SaysAlone words TOO_MANY.now
+SaysFault text ls fault.TooDeep words = SaysAlone words TOO_DEEP.now
+SaysFault text ls fault.Repeat words = SaysRepetition text ls words
+SaysFault text ls (fault.Pattern number) words = SaysLiteral text ls number words
+SaysFault text ls fault.Memory words = SaysAlone words PATTERN_LARGE.now
 
 -- what is said of a fault of this text, by its place where it has one
 abbrev pub SaysOfQuery : (text : List ℕ) → QueryFault → Words → Type 0
-SaysOfQuery text fault.TooLong words = Say words TOO_LONG.now (Some Queries)
-SaysOfQuery text (fault.Syntax at) words = (words.page ≡ Some Queries) × IsSyntaxAt text at words
-SaysOfQuery text fault.TooMany words = Say words TOO_MANY.now (Some Queries)
-SaysOfQuery text fault.TooDeep words = Say words TOO_DEEP.now (Some Queries)
-SaysOfQuery text fault.Memory words = Say words PATTERN_LARGE.now (Some Queries)
-SaysOfQuery text _ words = words.page ≡ Some Queries
+SaysOfQuery text fault words =
+    (words.page ≡ Some Queries) × ((ls : List Literal) × KnowsLiterals text ls × SaysFault text ls fault words)
 
 -- A fault of a query with this code at this place. Without the query, or for another code, it is only said to be none.
 abbrev pub SaysOfCode : Asked → (code at : ℕ) → Words → Type 0

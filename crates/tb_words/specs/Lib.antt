@@ -11,7 +11,9 @@ pub mod LineFaults
 pub mod Named
 pub mod PairFaults
 pub mod QueryGuesses
+pub mod QueryLiterals
 pub mod QueryNumbers
+pub mod QueryPlaces
 pub mod QueryWords
 pub mod RowFaults
 pub mod Shown

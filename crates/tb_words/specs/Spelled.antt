@@ -63,11 +63,14 @@ IsLastCut first second from at =
 abbrev pub IsSame : (first second : List ℕ) → (at : ℕ) → Type 0
 IsSame first second at = (count : ℕ) × IsCommonFront first second count × IsLastCut first second count at
 
--- the place after the last space before a place; 0 where there is none
+-- the place after the last such byte before a place; 0 where there is none
+abbrev pub IsAfterLast : (byte : ℕ) → (text : List ℕ) → (at start : ℕ) → Type 0
+IsAfterLast byte text at start =
+    (start ≤ at) × ((start ≡ 0) ⊎ (slice_index text (start - 1) ≡ byte))
+    × ((k : ℕ) → start ≤ k → k < at → slice_index text k ≢ byte)
+
 abbrev pub IsWordStart : (text : List ℕ) → (at start : ℕ) → Type 0
-IsWordStart text at start =
-    (start ≤ at) × ((start ≡ 0) ⊎ (slice_index text (start - 1) ≡ 32))
-    × ((k : ℕ) → start ≤ k → k < at → slice_index text k ≢ 32)
+IsWordStart text at start = IsAfterLast 32 text at start
 
 -- ---- what is told
 

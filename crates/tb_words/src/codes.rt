@@ -79,6 +79,18 @@ fn uncomposed_field(alloc: Global, line: &str) -> Option<usize>
     None
 }
 
+/// Adds this column of the line, and what is there, if a column is named.
+macro_rules! with_field {
+    ($found:ident, $line:ident, $column:expr) => {
+        match $column {
+            Some(column) => $found
+                .in_column(column)
+                .with(Value::Text(field($line, column))),
+            None => $found,
+        }
+    };
+}
+
 fn not_composed<'a>(alloc: Global, number: usize, line: &'a str) -> Finding<'a>
     ensures line { result.line ≡ number }
     ensures said { SaysForm line.now result }
@@ -87,12 +99,7 @@ fn not_composed<'a>(alloc: Global, number: usize, line: &'a str) -> Finding<'a>
     if line.starts_with('#') {
         return found.with(Value::Text(line));
     }
-    match uncomposed_field(alloc, line) {
-        Some(column) => found
-            .in_column(column)
-            .with(Value::Text(field(line, column))),
-        None => found,
-    }
+    with_field!(found, line, uncomposed_field(alloc, line))
 }
 
 fn is_stray(c: char) -> bool
@@ -327,12 +334,7 @@ fn space<'a>(number: usize, line: &'a str) -> Finding<'a>
     ensures said { SaysSpace line.now result }
 {
     let found = Finding::on(number, reported::SPACE);
-    match spaced_column(line) {
-        Some(column) => found
-            .in_column(column)
-            .with(Value::Text(field(line, column))),
-        None => found,
-    }
+    with_field!(found, line, spaced_column(line))
 }
 
 fn head<'a>(number: usize, line: &'a str) -> Finding<'a>

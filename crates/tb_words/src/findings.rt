@@ -231,14 +231,7 @@ impl<'a> Finding<'a> {
 
     /// Adds the ID of the row.
     pub(crate) fn of(mut self, id: LineId) -> Finding<'a>
-        ensures { result ≡ record {
-          line = self.entry.line;
-          id = Some id;
-          column = self.entry.column;
-          value = self.entry.value;
-          detail = self.entry.detail;
-          sentence = self.entry.sentence;
-        } }
+        ensures { result ≡ record self.entry { id = Some id } }
     {
         self.id = Some(id);
         self
@@ -246,14 +239,7 @@ impl<'a> Finding<'a> {
 
     /// Adds the column.
     pub(crate) fn in_column(mut self, column: usize) -> Finding<'a>
-        ensures { result ≡ record {
-          line = self.entry.line;
-          id = self.entry.id;
-          column = Some column;
-          value = self.entry.value;
-          detail = self.entry.detail;
-          sentence = self.entry.sentence;
-        } }
+        ensures { result ≡ record self.entry { column = Some column } }
     {
         self.column = Some(column);
         self
@@ -261,14 +247,7 @@ impl<'a> Finding<'a> {
 
     /// Adds what is there.
     pub(crate) fn with(mut self, value: Value<'a>) -> Finding<'a>
-        ensures { result ≡ record {
-          line = self.entry.line;
-          id = self.entry.id;
-          column = self.entry.column;
-          value = Some value.entry;
-          detail = self.entry.detail;
-          sentence = self.entry.sentence;
-        } }
+        ensures { result ≡ record self.entry { value = Some value.entry } }
     {
         self.value = Some(value);
         self
@@ -276,14 +255,7 @@ impl<'a> Finding<'a> {
 
     /// Adds a detail.
     pub(crate) fn and(mut self, detail: Detail) -> Finding<'a>
-        ensures { result ≡ record {
-          line = self.entry.line;
-          id = self.entry.id;
-          column = self.entry.column;
-          value = self.entry.value;
-          detail = detail;
-          sentence = self.entry.sentence;
-        } }
+        ensures { result ≡ record self.entry { detail = detail } }
     {
         self.detail = detail;
         self

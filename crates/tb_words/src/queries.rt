@@ -1,12 +1,21 @@
 //! What is wrong with a query, or what it most likely means where it finds nothing.
 
-ghost use Rattle.std.specs.Prelude.{◌≡◌, None, Some, option_map};
+ghost use Rattle.std.specs.List.{before_first};
+ghost use Rattle.std.specs.Prelude.{◌≡◌, ◌+◌, ◌||◌, Decides, drop, false, IfSome, MatchOption, None, Some, option_map};
+ghost use Rattle.std.specs.Prelude.{if◌then◌else◌, true};
 ghost use Rattle.std.specs.Str.{IsCharBoundary};
+ghost use Rattle.std.specs.Str.Iter.{HasSubslice};
+ghost use Rattle.std.specs.String.{string_bytes};
 ghost use Rattle.tb_words.specs.declared.sentences.TheConstants.{LITERALLY, NOTHING_RELEASED, ON_A_RANGE};
+ghost use Rattle.tb_words.specs.declared.sentences.TheConstants.{PATTERN_BACK, PATTERN_LOOKING, PATTERN_OTHER};
 ghost use Rattle.tb_words.specs.QueryNumbers.{IsNumber, SaysBounds, bound_texts, bounds_sentence};
-ghost use Rattle.tb_words.specs.Explained.{BeginWith, Say, SaysOfQuery, SaysSyntax, form_place, hits_place, query_place};
+ghost use Rattle.tb_words.specs.Explained.{BeginWith, IsGuess, Say, SaysFault, SaysLiteral, SaysOfQuery, SaysRepetition};
+ghost use Rattle.tb_words.specs.Explained.{PointAt, form_place, hits_place, query_place};
+ghost use Rattle.tb_words.specs.QueryLiterals.{HasChar, KnowsLiterals};
+ghost use Rattle.tb_words.specs.QueryPlaces.{IsClosed, IsFirstWrong, IsNoneWrong, IsPicture, LooksRound, SaysBraces};
+ghost use Rattle.tb_words.specs.QueryPlaces.{SaysPattern, begins_digit, is_brace, is_closing, is_first_digit, looks_back};
 
-use crate::literals::{Literal, holds, literals, written};
+use crate::literals::{Literal, holds, literals, numbered, written};
 use crate::pictures::{character, picture};
 use crate::sentences as reported;
 use crate::syntax::Wrong;
@@ -18,6 +27,8 @@ use tb_query::QueryFault;
 fn at_byte(alloc: Global, text: &str, at: usize, sentence: &'static str) -> Words
     ensures says { Say result sentence.now None }
     ensures place { IsCharBoundary text.now at → BeginWith result (query_place text.now at) }
+    ensures picture { IsCharBoundary text.now at
+        → IfSome result.picture (λ picture. IsPicture text.now at (string_bytes picture)) }
 {
     let place = character(text, at);
     Words::at(format!(in alloc; "query, character {place}"), sentence).with_picture(picture(
@@ -25,12 +36,18 @@ fn at_byte(alloc: Global, text: &str, at: usize, sentence: &'static str) -> Word
     ))
 }
 
-fn syntax(alloc: Global, text: &str, literals: &[Literal], at: usize) -> Words
-    ensures { SaysSyntax text.now at result }
+/// What is most likely meant at a byte.
+fn guess(text: &str, literals: &[Literal], at: usize) -> &'static str
+    ensures { IsCharBoundary text.now at → IsGuess text.now literals.now at result.now }
 {
-    let is_closed = holds(literals, at);
-    let sentence = Wrong::new(text, literals, at).sentence(is_closed);
-    at_byte(alloc, text, at, sentence)
+    Wrong::new(text, literals, at).sentence(holds(literals, at))
+}
+
+fn syntax(alloc: Global, text: &str, literals: &[Literal], at: usize) -> Words
+    ensures { IsCharBoundary text.now at
+        → IsGuess text.now literals.now at result.sentence.now × PointAt result text.now at }
+{
+    at_byte(alloc, text, at, guess(text, literals, at))
 }
 
 /// A number, which may have white space around it. One that is too large for the type becomes the largest one.
@@ -81,66 +98,191 @@ fn numbers_fault(text: &str) -> Option<&'static str>
     bounds_fault(number(first), number(second))
 }
 
-/// The first repetition whose numbers are wrong.
-fn repetition(alloc: Global, text: &str, literals: &[Literal]) -> Option<Words> {
+/// What is between a brace at a byte and the next one that closes it.
+fn in_braces(text: &str, at: usize) -> Option<&str>
+    ensures { IsCharBoundary text.now at → IsCharBoundary (drop at text.now) 1 → MatchOption result
+        (IsClosed text.now at → ⊥)
+        (λ inside. IsClosed text.now at × (inside.now ≡ before_first is_closing (drop (at + 1) text.now))) }
+{
+    let rest = text.get(at..).unwrap_or("").get(1..).unwrap_or("");
+    match rest.split_once('}') {
+        Some((inside, _)) => Some(inside),
+        None => None,
+    }
+}
+
+/// Whether a brace that begins a repetition is there.
+fn is_brace(literals: &[Literal], at: usize, c: char) -> bool
+    ensures { result ≡ is_brace literals.now (at, c) }
+{
+    c == '{' && !holds(literals, at)
+}
+
+/// What is wrong with the repetition whose brace is at a byte; `None` where no brace closes it.
+fn braces_fault(text: &str, at: usize) -> Option<Option<&'static str>>
+    ensures { HasChar text.now at 123 → MatchOption result (IsClosed text.now at → ⊥)
+        (λ said. SaysBraces text.now at (option_map (λ s. s.now) said)) }
+{
+    match in_braces(text, at) {
+        Some(inside) => Some(numbers_fault(inside)),
+        None => None,
+    }
+}
+
+/// The same of any character. What is no brace is right.
+fn brace_fault(text: &str, literals: &[Literal], at: usize, c: char) -> Option<Option<&'static str>>
+    ensures other { is_brace literals.now (at, c) ≡ false → result ≡ Some None }
+    ensures brace { is_brace literals.now (at, c) ≡ true → HasChar text.now at 123 → MatchOption result
+        (IsClosed text.now at → ⊥) (λ said. SaysBraces text.now at (option_map (λ s. s.now) said)) }
+{
+    if is_brace(literals, at, c) {
+        braces_fault(text, at)
+    } else {
+        Some(None)
+    }
+}
+
+/// The first repetition whose numbers are wrong, by the place of its brace, and what is wrong with them.
+fn repetition(text: &str, literals: &[Literal]) -> Option<(usize, &'static str)>
+    ensures { MatchOption result (IsNoneWrong text.now literals.now)
+        (λ found. IsFirstWrong text.now literals.now found.0 found.1.now × IsCharBoundary text.now found.0) }
+{
     for (at, c) in text.char_indices() {
-        if c != '{' || holds(literals, at) {
-            continue;
-        }
-        let (numbers, _) = text.get(at.saturating_add(1)..)?.split_once('}')?;
-        if let Some(sentence) = numbers_fault(numbers) {
-            return Some(at_byte(alloc, text, at, sentence));
+        let Some(said) = brace_fault(text, literals, at, c) else {
+            return None;
+        };
+        if let Some(sentence) = said {
+            return Some((at, sentence));
         }
     }
     None
 }
 
-/// Whether a pattern refers to an earlier match, as `\1` does.
-fn looks_back(pattern: &str) -> bool {
-    pattern.split('\\').skip(1).any(|piece| piece.starts_with(|c: char| matches!(c, '1'..='9')))
+/// What is wrong with the numbers of repetitions.
+fn repeated(alloc: Global, text: &str, literals: &[Literal]) -> Words
+    ensures { SaysRepetition text.now literals.now result }
+{
+    match repetition(text, literals) {
+        Some((at, sentence)) => at_byte(alloc, text, at, sentence),
+        None => Words::alone(reported::REPEAT_ABOVE),
+    }
 }
 
-fn pattern_fault(pattern: &str) -> &'static str {
-    if pattern.contains("(?=")
-        || pattern.contains("(?!")
-        || pattern.contains("(?<=")
-        || pattern.contains("(?<!")
-    {
+/// Whether a text has this part.
+fn has(text: &str, part: &str) -> bool
+    ensures { Decides result (HasSubslice text.now part.now) }
+{
+    text.contains(part)
+}
+
+/// Whether one of four things is so.
+fn is_any(first: bool, second: bool, third: bool, fourth: bool) -> bool
+    ensures { result ≡ ((first || second) || (third || fourth)) }
+{
+    (first || second) || (third || fourth)
+}
+
+/// Whether a pattern looks ahead or behind.
+fn looks_round(pattern: &str) -> bool
+    ensures { Decides result (LooksRound pattern.now) }
+{
+    is_any(
+        has(pattern, "(?="),
+        has(pattern, "(?!"),
+        has(pattern, "(?<="),
+        has(pattern, "(?<!"),
+    )
+}
+
+/// Whether a byte is a digit, without 0.
+fn is_first_digit(byte: u8) -> bool
+    ensures { result ≡ is_first_digit byte }
+{
+    matches!(byte, b'1'..=b'9')
+}
+
+/// Whether a text begins with a digit, without 0.
+fn begins_digit(text: &str) -> bool
+    ensures { result ≡ begins_digit text.now }
+{
+    is_first_digit(text.as_bytes().first().copied().unwrap_or(0))
+}
+
+/// Whether a pattern refers to an earlier match, as `\1` does.
+fn looks_back(pattern: &str) -> bool
+    ensures { result ≡ looks_back pattern.now }
+{
+    pattern.split('\\').skip(1).any(|piece| begins_digit(piece))
+}
+
+fn looking_fault(is_round: bool, is_back: bool) -> &'static str
+    ensures { result.now
+        ≡ (if is_round then PATTERN_LOOKING.now else if is_back then PATTERN_BACK.now else PATTERN_OTHER.now) }
+{
+    if is_round {
         reported::PATTERN_LOOKING
-    } else if looks_back(pattern) {
+    } else if is_back {
         reported::PATTERN_BACK
     } else {
         reported::PATTERN_OTHER
     }
 }
 
+/// What is wrong with a literal that is no pattern.
+fn pattern_fault(pattern: &str) -> &'static str
+    ensures { SaysPattern pattern.now result.now }
+{
+    looking_fault(looks_round(pattern), looks_back(pattern))
+}
+
 /// What is wrong with the literal that has this number, counted from 1, and is no pattern.
-fn pattern(alloc: Global, text: &str, literals: &[Literal], number: u64) -> Option<Words> {
-    let literal = *literals.get(number.checked_sub(1)? as usize)?;
-    let sentence = pattern_fault(written(text, literal));
-    Some(at_byte(alloc, text, literal.start, sentence))
+fn pattern(alloc: Global, text: &str, literals: &[Literal], number: u64) -> Words
+    ensures { KnowsLiterals text.now literals.now → SaysLiteral text.now literals.now number result }
+{
+    match numbered(literals, number) {
+        Some(literal) => {
+            at_byte(
+                alloc,
+                text,
+                literal.start,
+                pattern_fault(written(text, literal)),
+            )
+        }
+        None => Words::alone(reported::PATTERN_OTHER),
+    }
+}
+
+/// What is wrong with a text that has these literals.
+fn explained(alloc: Global, text: &str, literals: &[Literal], fault: QueryFault) -> Words
+    ensures { KnowsLiterals text.now literals.now → SaysFault text.now literals.now fault result }
+{
+    match fault {
+        QueryFault::TooLong => Words::alone(reported::TOO_LONG),
+        QueryFault::Syntax(at) => syntax(alloc, text, literals, at as usize),
+        QueryFault::TooMany => Words::alone(reported::TOO_MANY),
+        QueryFault::TooDeep => Words::alone(reported::TOO_DEEP),
+        QueryFault::Repeat => repeated(alloc, text, literals),
+        QueryFault::Pattern(number) => pattern(alloc, text, literals, number),
+        QueryFault::Memory => Words::alone(reported::PATTERN_LARGE),
+    }
+}
+
+/// The literals of a text; none where memory is wanting.
+fn known_literals(alloc: Global, text: &str) -> Vec<Literal>
+    ensures { KnowsLiterals text.now result.items }
+{
+    match literals(alloc, text) {
+        Ok(found) => found,
+        Err(_) => Vec::new(alloc),
+    }
 }
 
 /// What is wrong with a text that is no query.
 pub(crate) fn words_of_query(alloc: Global, text: &str, fault: QueryFault) -> Words
     ensures { SaysOfQuery text.now fault result }
 {
-    let found = literals(alloc, text).unwrap_or(Vec::new(alloc));
-    let literals = found.as_slice();
-    let words = match fault {
-        QueryFault::TooLong => Words::alone(reported::TOO_LONG),
-        QueryFault::Syntax(at) => syntax(alloc, text, literals, at as usize),
-        QueryFault::TooMany => Words::alone(reported::TOO_MANY),
-        QueryFault::TooDeep => Words::alone(reported::TOO_DEEP),
-        QueryFault::Repeat => repetition(alloc, text, literals).unwrap_or(Words::alone(
-            reported::REPEAT_ABOVE,
-        )),
-        QueryFault::Pattern(number) => pattern(alloc, text, literals, number).unwrap_or(
-            Words::alone(reported::PATTERN_OTHER),
-        ),
-        QueryFault::Memory => Words::alone(reported::PATTERN_LARGE),
-    };
-    words.on(Page::Queries)
+    let literals = known_literals(alloc, text);
+    explained(alloc, text, literals.as_slice(), fault).on(Page::Queries)
 }
 
 /// The words for a query that finds nothing, while this text of it finds so many hits.

@@ -1,7 +1,7 @@
 //! The words for a refused command, and for what may come next.
 
 ghost use Rattle.std.specs.Prelude.{◌≡◌, None, IfSome, is_some};
-ghost use Rattle.tb_words.specs.declared.sentences.TheConstants.{STALE};
+ghost use Rattle.tb_words.specs.declared.sentences.TheConstants.{PATTERN_LARGE, STALE};
 ghost use Rattle.tb_words.specs.Explained.{BeginWith, Explains, IsNumbered, Say, SaysOfCode, SaysOfMemory};
 ghost use Rattle.tb_words.specs.Explained.{SaysMissing, SaysOfRefusal, base_of, batch_place, is_explained, missing_sentence};
 ghost use Rattle.tb_words.specs.Explained.{next_sentence, refusal_sentence, stale_place, state_place, state_sentence};
@@ -169,13 +169,20 @@ fn of_query(alloc: Global, code: u8, at: u64, asked: Asked<'_>) -> Words
     }
 }
 
+/// The words for a query with a pattern that is too large.
+fn of_large(alloc: Global, text: &str) -> Words
+    ensures { Say result PATTERN_LARGE.now (Some Page.Queries) }
+{
+    words_of_query(alloc, text, QueryFault::Memory)
+}
+
 /// The words for want of memory. A query that wants memory whenever it is read has a pattern that is too large.
 fn of_memory(alloc: Global, asked: Asked<'_>) -> Words
     ensures { SaysOfMemory result }
 {
     match asked {
         Asked::Query(text) if matches!(parse(alloc, text), Err(QueryFault::Memory)) => {
-            words_of_query(alloc, text, QueryFault::Memory)
+            of_large(alloc, text)
         }
         _ => Words::alone(reported::MEMORY),
     }

@@ -1,12 +1,13 @@
 //! What a query most likely means, where it has something that no query can have.
 
 ghost use Rattle.std.specs.List.{ends_with, slice_get, starts_with};
-ghost use Rattle.std.specs.Prelude.{◌≡◌, chars, drop, eqb, length, position, take};
+ghost use Rattle.std.specs.Prelude.{◌≡◌, chars, drop, eqb, if◌then◌else◌, length, position, take};
 ghost use Rattle.std.specs.Str.{IsCharBoundary, trim_end, trim_start};
 ghost use Rattle.tb_words.specs.QueryGuesses.{begins_test, bracket_sentence, character_sentence, end_sentence, follows_column};
 ghost use Rattle.tb_words.specs.QueryGuesses.{follows_flag, follows_repetition, guess, inside_sentence, is_curly};
 ghost use Rattle.tb_words.specs.QueryGuesses.{outside_sentence, quote_sentence, repetition_sentence, said_if};
 ghost use Rattle.tb_words.specs.QueryGuesses.{sign_sentence, wants_number, wants_value, word_sentence};
+ghost use Rattle.tb_words.specs.QueryPlaces.{is_before, open_after, open_at};
 ghost use Rattle.tb_words.specs.QueryWords.{column_sentence, first_word, is_closed_column, is_column};
 ghost use Rattle.tb_words.specs.QueryWords.{is_column_in_capitals, is_connective, is_of_features, is_of_forms};
 ghost use Rattle.tb_words.specs.QueryWords.{is_no_letter, is_of_relations, is_of_tags};
@@ -26,18 +27,45 @@ pub(crate) struct Wrong<'a> {
     parentheses: usize,
 }
 
+/// Whether a place is before another one, and in no literal.
+fn is_before(literals: &[Literal], at: usize, place: usize) -> bool
+    ensures { result ≡ is_before literals.now at place }
+{
+    place < at && !holds(literals, place)
+}
+
+/// How many are open after a sign more.
+fn open_after(opens: char, closes: char, count: usize, c: char) -> usize
+    ensures { result ≡ open_after opens closes count c }
+{
+    if c == opens {
+        count.saturating_add(1)
+    } else if c == closes {
+        count.saturating_sub(1)
+    } else {
+        count
+    }
+}
+
+/// How many are open after a sign more, if it counts.
+fn open_if(is_counted: bool, opens: char, closes: char, count: usize, c: char) -> usize
+    ensures { result ≡ (if is_counted then open_after opens closes count c else count) }
+{
+    if is_counted {
+        open_after(opens, closes, count, c)
+    } else {
+        count
+    }
+}
+
 /// How many of one sign are open before a place, without those in literals.
-fn open(text: &str, literals: &[Literal], at: usize, opens: char, closes: char) -> usize {
+fn open_at(text: &str, literals: &[Literal], at: usize, opens: char, closes: char) -> usize
+    ensures { result ≡ open_at text.now literals.now at opens closes }
+{
     let mut count: usize = 0;
     for (place, c) in text.char_indices() {
-        if place >= at || holds(literals, place) {
-            continue;
-        }
-        if c == opens {
-            count = count.saturating_add(1);
-        } else if c == closes {
-            count = count.saturating_sub(1);
-        }
+        let is_counted = is_before(literals, at, place);
+        count = open_if(is_counted, opens, closes, count, c);
     }
     count
 }
@@ -188,12 +216,14 @@ impl<'a> Wrong<'a> {
     pub(crate) fn new(text: &'a str, literals: &[Literal], at: usize) -> Wrong<'a>
         ensures before { IsCharBoundary text.now at → result.before.now ≡ trim_end (take at text.now) }
         ensures rest { IsCharBoundary text.now at → result.rest.now ≡ drop at text.now }
+        ensures brackets { result.brackets ≡ open_at text.now literals.now at 91 93 }
+        ensures parentheses { result.parentheses ≡ open_at text.now literals.now at 40 41 }
     {
         Wrong {
             before: text.get(..at).unwrap_or(text).trim_end(),
             rest: text.get(at..).unwrap_or(""),
-            brackets: open(text, literals, at, '[', ']'),
-            parentheses: open(text, literals, at, '(', ')'),
+            brackets: open_at(text, literals, at, '[', ']'),
+            parentheses: open_at(text, literals, at, '(', ')'),
         }
     }
 
