@@ -15,6 +15,11 @@ pub weaker : {A E : Type 0} (P Q : A → Type 0) (made : Result A E) → IfOk ma
 weaker P Q (Ok a) p h = h a p
 weaker P Q (Err e) p h = tt
 
+-- what holds of each value holds of what a call gave
+pub of_each : {A E : Type 0} (Q : A → Type 0) (made : Result A E) → ((a : A) → Q a) → IfOk made Q
+of_each Q (Ok a) h = h a
+of_each Q (Err e) h = tt
+
 -- the value inside what is handed on
 pub handed : {A F E C : Type 0} (inside : F → A) (R : E → C → Type 0) (P Q : A → Type 0) (made : Result A E) (result : Result F C)
     → MatchResult made (λ a. IsOkAnd result (λ f. inside f ≡ a)) (λ e. IsErrAnd result (R e))

@@ -1,4 +1,5 @@
 mod Awaited
+mod Firsts
 mod Handed
 mod Led
 mod Listed

@@ -23,6 +23,19 @@ module _ {A : Type 0} (R : ℕ → A → Type 0) (rows : List A) where
     pub off_first : ¬ R (i + 1) row → AreRight R rows i → IsFirstOff R rows (i + 1)
     off_first off before = (i, refl, inside, before, λ d right. off (subst (R (i + 1)) (sym (get_or_read rows i row inside is d)) right))
 
+  module _ (i : ℕ) (inside : i < length rows) where
+    pub one_more_here : ((d : A) → R (i + 1) (get_or rows i d)) → AreRight R rows i → AreRight R rows (i + 1)
+    one_more_here right before k d small = by_test (nat_eq k i) refl
+      where
+        by_test : (b : Bool) → nat_eq k i ≡ b → R (k + 1) (get_or rows k d)
+        by_test true e =
+            let same : k ≡ i = grind (arith, nat_tests, e) in
+            subst (λ n. R (n + 1) (get_or rows n d)) (sym same) (right d)
+        by_test false e = before k d (grind (arith, nat_tests, e, small))
+
+    pub off_here : ((d : A) → ¬ R (i + 1) (get_or rows i d)) → AreRight R rows i → IsFirstOff R rows (i + 1)
+    off_here off before = (i, refl, inside, before, off)
+
   pub all_right : (i : ℕ) → length rows ≤ i → AreRight R rows i → AreRight R rows (length rows)
   all_right i end before k d small = before k d (omega (arith, end, small))
 

@@ -1,10 +1,11 @@
 -- Why no desk is listed.
-use Rattle.std.proofs.Common.{◌≡◌, ◌⊎◌, ℕ, List, refl, sym, subst, inl, inr, Option, Some, None, Result, Ok, Err, IfErr, IsSomeAnd}
+use Rattle.std.proofs.Common.{◌≡◌, ◌⊎◌, ◌++◌, ℕ, List, codes, refl, sym, subst, inl, inr, Option, Some, None, Result, Ok, Err, IfErr, IsSomeAnd}
 use Rattle.std.specs.Option.{ok_or}
 use Rattle.std.specs.declared.fs.attrs.Metadata.{Metadata}
-use Rattle.tb_host.specs.Contents.{IsFailedCall, IsNotPlain, IsReserved, IsUnversioned, Path, version_by}
+use Rattle.std.specs.Fs.{IsFile, file_type}
+use Rattle.tb_host.specs.Contents.{IsFailedCall, IsHeldAs, IsNoPlace, IsNotPlain, IsReserved, IsUnmakeable, IsUnversioned, Path, version_by}
 use Rattle.tb_host.specs.declared.causes.FileCause.{FileCause}
-use Rattle.tb_host.specs.declared.causes.FileCause.TheVariants.{OtherDatabase, ReservedName}
+use Rattle.tb_host.specs.declared.causes.FileCause.TheVariants.{OddLog, OtherDatabase, ReservedName}
 use Rattle.tb_host.specs.declared.contents.Version.{Version}
 
 -- neither a log nor its file lists one
@@ -40,3 +41,25 @@ pub not_led : (IsTarget : Result (Option Metadata) FileCause → Type 0) (IsReal
     → ((cause ≡ ReservedName) × IsReserved path) ⊎ IsNotPlain IsTarget IsReal cause → IfErr result (IsUnversioned IsTarget IsReal IsThere IsBeginning path)
 not_led IsTarget IsReal IsThere IsBeginning path cause result is (inl h) = subst (λ r. IfErr r (IsUnversioned IsTarget IsReal IsThere IsBeginning path)) (sym is) (inl h)
 not_led IsTarget IsReal IsThere IsBeginning path cause result is (inr h) = subst (λ r. IfErr r (IsUnversioned IsTarget IsReal IsThere IsBeginning path)) (sym is) (inr (inr (inl h)))
+
+-- what a file begins with is held as the cause says
+pub same_head : (bytes head : List ℕ) (cause : FileCause) → bytes ≡ head → IsHeldAs bytes cause → IsHeldAs head cause
+same_head bytes head cause is held = subst (λ b. IsHeldAs b cause) is held
+
+-- a result that is this cause
+pub refused_as : {A : Type 0} (P : FileCause → Type 0) (cause : FileCause) (result : Result A FileCause) → result ≡ Err cause → P cause → IfErr result P
+refused_as P cause result is p = subst (λ r. IfErr r P) (sym is) p
+
+module _ (IsThere : List ℕ → Option Metadata → Type 0) (IsBeginning : List ℕ → ℕ → List ℕ → Type 0) (path : List ℕ) where
+  -- no desk may be made, for the log of the file
+  pub by_log : (cause : FileCause)
+      → IsFailedCall cause ⊎ ((cause ≡ OddLog) × ((found : Metadata) × IsThere (path ++ codes "-wal") (Some found) × ¬ IsFile (file_type found)))
+      → IsNoPlace IsThere IsBeginning path cause
+  by_log cause (inl failed) = inl failed
+  by_log cause (inr odd) = inr (inr (inr (odd.1.0, odd.1.1, inl (odd.0, odd.1.2))))
+
+  -- nor where a path does not lead to a plain file
+  pub not_made : (IsTarget : Result (Option Metadata) FileCause → Type 0) (IsReal : Result Path FileCause → Type 0) (cause : FileCause)
+      → ((cause ≡ ReservedName) × IsReserved path) ⊎ IsNotPlain IsTarget IsReal cause → IsUnmakeable IsTarget IsReal IsThere IsBeginning path cause
+  not_made IsTarget IsReal cause (inl reserved) = inl reserved
+  not_made IsTarget IsReal cause (inr not_plain) = inr (inl not_plain)

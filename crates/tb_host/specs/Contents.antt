@@ -14,6 +14,7 @@ use Rattle.std.specs.declared.io.ErrorKind.{ErrorKind}
 use Rattle.std.specs.declared.io.ErrorKind.TheVariants.{NotFound, NotADirectory}
 use Rattle.memchr.specs.Find.{OccursAt}
 use Rattle.sqlite_wal.specs.Format.{be32}
+use Rattle.sqlite_wal.specs.PageSize.{Names}
 use Rattle.sqlite_wal.specs.Recovery.{AreFramesOf, IsIgnored}
 use Rattle.tb_host.specs.Causes.{IsSystemCause}
 use Rattle.tb_host.specs.declared.contents.Version.{Version}
@@ -134,10 +135,14 @@ pub record HasBegunAlone (size : ℕ) (log : List ℕ) : Type 0 where
   pub are : AreFramesOf size log pages
   pub begun : (pages ≡ []) ⊎ AreBegun log pages
 
--- A log that `new` may have left, and may write over: its header is not written, or by the page size in its header it has
--- begun alone.
+-- The database reads no header of a log in the bytes, or one that names no size that a page has. So it reads no commit.
+abbrev pub HasNoHeader : List ℕ → Type 0
+HasNoHeader log = (¬ IsIgnored log) → Names None (be32 log 8)
+
+-- A log that `new` may have left, and may write over: its header is not written, and the database reads none. Or by the
+-- page size in its header it has begun alone.
 abbrev pub MayBeOwnLog : List ℕ → Type 0
-MayBeOwnLog log = IsUnwritten log ⊎ ((¬ IsIgnored log) × HasBegunAlone (be32 log 8) log)
+MayBeOwnLog log = (IsUnwritten log × HasNoHeader log) ⊎ ((¬ IsIgnored log) × HasBegunAlone (be32 log 8) log)
 
 -- the number that four bytes are, the greatest first (section 1.3)
 abbrev pub number_in : List ℕ → ℕ
@@ -245,6 +250,34 @@ pub record MayBecomeDesk (IsThere : List ℕ → Option Metadata → Type 0)
   pub blank : IsBlank head
   pub journal : HasNoJournal IsBeginning path
   pub log : HasOwnLog IsThere IsBeginning path
+
+-- what a file begins with is no blank database, and this is the cause: a desk, or something else
+abbrev pub IsHeldAs : (head : List ℕ) → FileCause → Type 0
+IsHeldAs head cause = (¬ IsBlank head) × (ListsTables head → cause ≡ file.DeskAlready)
+    × ((¬ ListsTables head) → cause ≡ file.NotBlank)
+
+-- The log beside a file is the cause: it is no plain file, or one that may not be written over.
+abbrev pub IsLogCause : (IsThere : List ℕ → Option Metadata → Type 0) → (path : List ℕ) → FileCause → Type 0
+IsLogCause IsThere path cause = (found : Metadata) × IsThere (path ++ codes "-wal") (Some found)
+    × (((cause ≡ file.OddLog) × ¬ IsFile (file_type found)) ⊎ (cause ≡ file.OtherLog))
+
+-- Why no desk may be made in the file at a path: a call of the system failed, the file is not blank, a journal may have to
+-- be played back, or its log is the cause.
+abbrev pub IsNoPlace : (IsThere : List ℕ → Option Metadata → Type 0)
+    → (IsBeginning : List ℕ → ℕ → List ℕ → Type 0) → (path : List ℕ) → FileCause → Type 0
+IsNoPlace IsThere IsBeginning path cause = IsFailedCall cause
+    ⊎ ((head : List ℕ) × IsBeginning path 65536 head × IsHeldAs head cause)
+    ⊎ ((cause ≡ file.Journal) × HasJournal IsThere IsBeginning path)
+    ⊎ IsLogCause IsThere path cause
+
+-- Why no desk may be made at a path: SQLite gives it a meaning of its own, it leads to no plain file, or the file is the
+-- cause.
+abbrev pub IsUnmakeable : (IsTarget : Result (Option Metadata) FileCause → Type 0)
+    → (IsReal : Result Path FileCause → Type 0) → (IsThere : List ℕ → Option Metadata → Type 0)
+    → (IsBeginning : List ℕ → ℕ → List ℕ → Type 0) → (path : List ℕ) → FileCause → Type 0
+IsUnmakeable IsTarget IsReal IsThere IsBeginning path cause = ((cause ≡ file.ReservedName) × IsReserved path)
+    ⊎ IsNotPlain IsTarget IsReal cause
+    ⊎ ((real : Option Path) × LeadsTo IsTarget IsReal real × IsNoPlace IsThere IsBeginning (place_of path real) cause)
 
 -- whether a desk of this version is opened, or is of another version than today's
 abbrev pub may_be_opened : Version → Result (Unit {0}) FileCause

@@ -3,6 +3,7 @@ pub mod Causes
 pub mod Contents
 pub mod Forms
 pub mod Links
+pub mod Looked
 pub mod Misfits
 pub mod Opened
 pub mod Patience

@@ -6,10 +6,11 @@ ghost use Rattle.std.specs.Prelude.{IsTrue, Err as ErrOf, MatchResult, None, OnO
 ghost use Rattle.std.specs.Prelude.{string_bytes, true};
 ghost use Rattle.std.specs.Fs.{IsDir, IsFile, file_type, metadata_len};
 ghost use Rattle.std.specs.Path.{path_buf_bytes};
+ghost use Rattle.std.specs.declared.fs.attrs.Metadata.{Metadata};
 ghost use Rattle.tb_host.specs.Contents.{BeginsWith, HasNoJournal, HasOwnLog, IsBlank, IsListed, IsFailedCall, IsOtherFile};
 ghost use Rattle.tb_host.specs.Contents.{HasDeskAt, HasJournal, IsUnlisted, IsUnlistedAlone, IsUnversioned};
 ghost use Rattle.tb_host.specs.Contents.{IsNotPlain, IsReserved, LeadsTo, ListsDesk, ListsTables};
-ghost use Rattle.tb_host.specs.Contents.{MayBeOwnLog, MayBecomeDesk, Path};
+ghost use Rattle.tb_host.specs.Contents.{IsNoPlace, IsUnmakeable, MayBeOwnLog, MayBecomeDesk, Path};
 ghost use Rattle.tb_host.specs.Contents.{is_hot, is_looked_at_again, odd_cause, own_log_limit, place_of, version_by};
 
 use crate::causes::FileCause;
@@ -282,6 +283,7 @@ fn may_be_own(found: &fs::Metadata) -> Result<bool, FileCause>
     ensures odd { ¬ IsFile (file_type found.now) → result ≡ ErrOf FileCause.OddLog }
     ensures plain { IsFile (file_type found.now)
         → IsOkAnd result (λ short. IsTrue short ↔ metadata_len found.now ≤ own_log_limit) }
+    ensures cause { IfErr result (λ cause. (cause ≡ FileCause.OddLog) × ¬ IsFile (file_type found.now)) }
 {
     if !found.is_file() {
         return Err(FileCause::OddLog);
@@ -291,8 +293,9 @@ fn may_be_own(found: &fs::Metadata) -> Result<bool, FileCause>
 
 /// Whether a log that is short enough to be looked into holds commits of another desk.
 fn has_commits_of_another<S: System>(system: &S, path: &str) -> Result<bool, FileCause>
-    ensures { IfOk result (λ has. has ≡ false → (bytes : List ℕ)
+    ensures none { IfOk result (λ has. has ≡ false → (bytes : List ℕ)
         × S.IsBeginning system.now (path.now ++ codes "-wal") own_log_limit bytes × MayBeOwnLog bytes) }
+    ensures cause { IfErr result IsFailedCall }
 {
     let bytes = beginning_beside(system, path, "-wal", HALF_MADE_LOG)?;
     has_commits(system.memory(), &bytes)
@@ -300,8 +303,13 @@ fn has_commits_of_another<S: System>(system: &S, path: &str) -> Result<bool, Fil
 
 /// Whether there is a log that a new desk would take for its own, though it holds commits of another desk.
 fn has_log_of_another<S: System>(system: &S, path: &str) -> Result<bool, FileCause>
-    ensures { IfOk result (λ has. has ≡ false
+    ensures none { IfOk result (λ has. has ≡ false
         → HasOwnLog (S.IsThere system.now) (S.IsBeginning system.now) path.now) }
+    ensures some { IfOk result (λ has. has ≡ true
+        → (found : Metadata) × S.IsThere system.now (path.now ++ codes "-wal") (Some found)) }
+    ensures cause { IfErr result (λ cause. IsFailedCall cause ⊎ ((cause ≡ FileCause.OddLog)
+        × ((found : Metadata) × S.IsThere system.now (path.now ++ codes "-wal") (Some found)
+        × ¬ IsFile (file_type found)))) }
 {
     let Some(found) = there_beside(system, path, "-wal")? else {
         return Ok(false);
@@ -338,7 +346,8 @@ fn blank(head: &[u8]) -> Result<(), FileCause>
 
 /// Refuses a file in which no desk may be made, by the first bytes of it and of the files beside it.
 fn look_at_new<S: System>(system: &S, path: &str) -> Result<(), FileCause>
-    ensures { OnOk result (MayBecomeDesk (S.IsThere system.now) (S.IsBeginning system.now) path.now) }
+    ensures new { OnOk result (MayBecomeDesk (S.IsThere system.now) (S.IsBeginning system.now) path.now) }
+    ensures refused { IfErr result (IsNoPlace (S.IsThere system.now) (S.IsBeginning system.now) path.now) }
 {
     let head = system.beginning(path, LOOKED_AT)?;
     blank(&head)?;
@@ -358,6 +367,8 @@ pub(crate) fn may_become_desk<S: System>(system: &S, path: &str) -> Result<(), F
     ensures new { OnOk result ((real : Option Path)
         × LeadsTo (S.IsTarget system.now path.now) (S.IsReal system.now path.now) real
         × MayBecomeDesk (S.IsThere system.now) (S.IsBeginning system.now) (place_of path.now real)) }
+    ensures refused { IfErr result (IsUnmakeable (S.IsTarget system.now path.now) (S.IsReal system.now path.now)
+        (S.IsThere system.now) (S.IsBeginning system.now) path.now) }
 {
     match file_at(system, path)? {
         Some(real) => look_at_new(system, real.as_str()),

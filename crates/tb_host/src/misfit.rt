@@ -1,21 +1,33 @@
 //! Which row is wrong first in a file whose rows are not those of a desk, for the words about it. This decides nothing:
 //! it reads the tables once more, after the file was refused.
 
-ghost use Rattle.std.specs.Prelude.{◌≡◌, ◌≢◌, ◌↔◌, ◌≤◌, ◌<◌, ◌++◌, [], ◌∷◌, length, IsErrAnd, IsOk, IsTrue};
-ghost use Rattle.std.specs.Prelude.{MatchOption, MatchResult};
-ghost use Rattle.std.specs.Prelude.{ℕ, IfSome, None, Some, pos};
+ghost use Rattle.std.specs.Prelude.{◌≡◌, ◌≢◌, ◌↔◌, ◌≤◌, ◌<◌, ◌++◌, ◌+◌, [], ◌∷◌, length, map};
+ghost use Rattle.std.specs.Prelude.{IfErr, IfOk, IfSome, IsErrAnd, IsOk, IsTrue, MatchOption, MatchResult};
+ghost use Rattle.std.specs.Prelude.{ℕ, Bool, List, None, Some, pos, slice_index, slice_index_or, string_bytes};
 ghost use Rattle.std.specs.List.{AllWithin, HoldsAt};
 ghost use Rattle.sqlite.specs.Order.{column};
 ghost use Rattle.sqlite.specs.declared.types.Value.TheVariants.{Int};
 ghost use Rattle.std.specs.Prelude.{Err as ErrOf, Ok as Read, false};
+ghost use Rattle.tb_core.specs.Machine.{Sentence};
+ghost use Rattle.tb_core.specs.Names.{is_name};
+ghost use Rattle.tb_tables.specs.Values.{batch_of};
+ghost use Rattle.tb_tables.specs.declared.rows.RevisionRow.{RevisionRow as AnyRevisionRow};
+ghost use Rattle.tb_tables.specs.declared.rows.TotalRow.{TotalRow as AnyTotalRow};
+ghost use Rattle.tb_refine.specs.DeskTables.{batch_record};
+ghost use Rattle.tb_replay.specs.Summaries.{entries_of, entry_of};
 ghost use Rattle.tb_host.specs.Misfits.{IsStopOf, IsUnreadable, first_pulled, first_revised, found_by};
 ghost use Rattle.tb_host.specs.Misfits.{query_of_numbers, smaller, stop_by, table_name};
 ghost use Rattle.tb_host.specs.Misfits.{AreRight, HasNumber, IsFirstOff};
+ghost use Rattle.tb_host.specs.Looked.{AreAllRead, AreRightTotals, Finds, FindsOrFails, HasSumsAt, IsBatchRow};
+ghost use Rattle.tb_host.specs.Looked.{IsFirstInBatches, IsFirstInMoves, IsFirstInSentences, IsFirstInSums};
+ghost use Rattle.tb_host.specs.Looked.{IsFirstMisfit, IsMoveRow, IsRowOff, IsSentenceRow, IsUnread, IsWrongSentence};
+ghost use Rattle.tb_host.specs.Looked.{IsWrongTotal, Said, Takes, stop_of_unfit};
 
 use sqlite::types::ValueRef;
-use sqlite::{Alter, Connection, Row};
+use sqlite::{Alter, Connection, Error, Row};
 use std::alloc::{AllocError, AllocFailed, Global};
 use std::fmt::{self, Display, Formatter};
+use std::slice;
 use tb_core::{Fault, Totals, good_name};
 use tb_reads::ReadError;
 use tb_refine::{read_moves, state_numbered};
@@ -125,6 +137,95 @@ impl<T: Drop> From<AllocFailed<T>> for Stop {
     }
 }
 
+/// The tables of a file that is no desk. What is made of their rows is proved over any, so over those of which it is
+/// kept what each says.
+trait Tables {
+    ghost use Rattle.std.specs.Prelude.{◌≡◌, IfOk, IfSome, Option};
+    ghost use Rattle.tb_host.specs.Looked.{Said, Tells};
+
+    // what each table says, where that is kept
+    ghost says: { Self → Option Said };
+
+    /// Whether the tables, columns and indexes are those of a desk.
+    fn has_schema(&self) -> bool
+        ensures { IfSome (says self.now) (λ said. result ≡ said.has_schema) };
+
+    fn versions(&mut self, alloc: Global) -> Result<Vec<u32>, ReadError>
+        ensures told { IfSome (says self.old) (λ said. Tells said.versions result (λ rows. rows.items)) }
+        ensures still { says self.new ≡ says self.old };
+
+    fn batches(&mut self, alloc: Global) -> Result<Vec<BatchRow>, ReadError>
+        ensures told { IfSome (says self.old) (λ said. Tells said.batches result (λ rows. rows.items)) }
+        ensures still { says self.new ≡ says self.old };
+
+    fn sentences(&mut self, alloc: Global) -> Result<Vec<SentenceRow>, ReadError>
+        ensures told { IfSome (says self.old) (λ said. Tells said.sentences result (λ rows. rows.items)) }
+        ensures still { says self.new ≡ says self.old };
+
+    fn revisions(&mut self, alloc: Global) -> Result<Vec<RevisionRow>, ReadError>
+        ensures told { IfSome (says self.old) (λ said. Tells said.revisions result (λ rows. rows.items)) }
+        ensures still { says self.new ≡ says self.old };
+
+    fn pulled(&mut self, alloc: Global) -> Result<Vec<u32>, ReadError>
+        ensures told { IfSome (says self.old) (λ said. Tells said.pulled result (λ rows. rows.items)) }
+        ensures still { says self.new ≡ says self.old };
+
+    fn moves(&mut self, alloc: Global) -> Result<Vec<MoveRow>, ReadError>
+        ensures told { IfSome (says self.old) (λ said. Tells said.moves result (λ rows. rows.items)) }
+        ensures still { says self.new ≡ says self.old };
+
+    fn totals(&mut self, alloc: Global) -> Result<Vec<TotalRow>, ReadError>
+        ensures told { IfSome (says self.old) (λ said. Tells said.totals result (λ rows. rows.items)) }
+        ensures still { says self.new ≡ says self.old };
+
+    /// The rows with the numbers of a table's rows alone.
+    fn numbers(&mut self, table: Table) -> Result<Vec<Row>, Error>
+        ensures told { IfSome (says self.old) (λ said. IfOk result (λ rows. rows.items ≡ said.numbers table)) }
+        ensures still { says self.new ≡ says self.old };
+}
+
+impl<S: Alter> Tables for Connection<S> {
+    ghost use Rattle.std.specs.Prelude.{None};
+
+    ghost says = { λ _. None };
+
+    fn has_schema(&self) -> bool {
+        has_desk_schema(self)
+    }
+
+    fn versions(&mut self, alloc: Global) -> Result<Vec<u32>, ReadError> {
+        tb_reads::versions(alloc, self)
+    }
+
+    fn batches(&mut self, alloc: Global) -> Result<Vec<BatchRow>, ReadError> {
+        tb_reads::batches(alloc, self)
+    }
+
+    fn sentences(&mut self, alloc: Global) -> Result<Vec<SentenceRow>, ReadError> {
+        tb_reads::sentences(alloc, self)
+    }
+
+    fn revisions(&mut self, alloc: Global) -> Result<Vec<RevisionRow>, ReadError> {
+        tb_reads::revisions(alloc, self)
+    }
+
+    fn pulled(&mut self, alloc: Global) -> Result<Vec<u32>, ReadError> {
+        tb_reads::pulled(alloc, self)
+    }
+
+    fn moves(&mut self, alloc: Global) -> Result<Vec<MoveRow>, ReadError> {
+        tb_reads::moves(alloc, self)
+    }
+
+    fn totals(&mut self, alloc: Global) -> Result<Vec<TotalRow>, ReadError> {
+        tb_reads::totals(alloc, self)
+    }
+
+    fn numbers(&mut self, table: Table) -> Result<Vec<Row>, Error> {
+        self.query_all(table.numbers(), &[])
+    }
+}
+
 /// The number in the first column, if it is one.
 fn number_in(row: &Row) -> Option<u64>
     ensures some { IfSome result (λ n. column row.now 0 ≡ Int (pos n)) }
@@ -163,10 +264,13 @@ fn first_gap(rows: &[Row]) -> Option<u64>
 }
 
 /// What is wrong with a table that cannot be read: a row is missing, or a value is of another kind.
-fn misfit_of<S: Alter>(conn: &mut Connection<S>, table: Table) -> Stop
-    ensures { IsUnreadable table result }
+fn misfit_of<T: Tables>(tables: &mut T, table: Table) -> Stop
+    ensures unreadable { IsUnreadable table result }
+    ensures first { (said : Said) → T.says tables.old ≡ Some said
+        → FindsOrFails (IsUnread table (said.numbers table)) result }
+    ensures still { T.says tables.new ≡ T.says tables.old }
 {
-    match conn.query_all(table.numbers(), &[]) {
+    match tables.numbers(table) {
         Ok(rows) => match first_gap(rows.as_slice()) {
             Some(number) => Stop::Found(Misfit::Missing(table, number)),
             None => Stop::Found(Misfit::Values(table.name())),
@@ -176,16 +280,19 @@ fn misfit_of<S: Alter>(conn: &mut Connection<S>, table: Table) -> Stop
 }
 
 /// The rows of a table whose rows are numbered.
-fn rows_of<S: Alter, T>(
-    conn: &mut Connection<S>,
+fn rows_of<T: Tables, A>(
+    tables: &mut T,
     table: Table,
-    read: Result<Vec<T>, ReadError>,
-) -> Result<Vec<T>, Stop>
-    ensures { MatchResult read (λ rows. result ≡ Read rows) (λ e. IsErrAnd result (IsStopOf e table)) }
+    read: Result<Vec<A>, ReadError>,
+) -> Result<Vec<A>, Stop>
+    ensures rows { MatchResult read (λ rows. result ≡ Read rows) (λ e. IsErrAnd result (IsStopOf e table)) }
+    ensures first { (said : Said) → T.says tables.old ≡ Some said
+        → IfErr result (FindsOrFails (IsUnread table (said.numbers table))) }
+    ensures still { T.says tables.new ≡ T.says tables.old }
 {
     match read {
         Ok(rows) => Ok(rows),
-        Err(ReadError::Form) => Err(misfit_of(conn, table)),
+        Err(ReadError::Form) => Err(misfit_of(tables, table)),
         Err(ReadError::Store(_)) => Err(Stop::Failed),
     }
 }
@@ -203,7 +310,8 @@ fn keyed_rows<T>(read: Result<Vec<T>, ReadError>, table: &'static str) -> Result
 }
 
 fn look_at_version(versions: &[u32]) -> Result<(), Stop>
-    ensures { IsOk result ↔ (versions.now ≡ 2 ∷ []) }
+    ensures right { IsOk result ↔ (versions.now ≡ 2 ∷ []) }
+    ensures wrong { IfErr result (λ stop. stop ≡ Stop.Found Misfit.Version) }
 {
     match versions {
         [2] => Ok(()),
@@ -211,22 +319,42 @@ fn look_at_version(versions: &[u32]) -> Result<(), Stop>
     }
 }
 
+fn has_good_name(row: &BatchRow) -> bool
+    ensures { result ≡ is_name (string_bytes row.now.name) }
+{
+    good_name(row.name.as_str())
+}
+
+/// The batch of a row, if it has a good name and a state.
+fn batch_in(row: &BatchRow) -> Option<tb_replay::BatchRow<'_>>
+    ensures record { IfSome result (λ batch. batch_record batch ≡ batch_of row.now) }
+    ensures named { IfSome result (λ _. IsTrue (is_name (string_bytes row.now.name))) }
+    ensures none { result ≡ None → ¬ IsBatchRow row.now }
+{
+    if !has_good_name(row) {
+        return None;
+    }
+    match state_numbered(row.state) {
+        Some(state) => Some(tb_replay::BatchRow {
+            name: row.name.as_str(),
+            state,
+            worker: row.worker.as_str(),
+        }),
+        None => None,
+    }
+}
+
 /// The batches, each with a good name and a state.
-fn batches_in<'a>(
-    alloc: Global,
-    rows: &'a [BatchRow],
-) -> Result<Vec<tb_replay::BatchRow<'a>>, Stop> {
+fn batches_in<'a>(alloc: Global, rows: &'a [BatchRow]) -> Result<Vec<tb_replay::BatchRow<'a>>, Stop>
+    ensures right { IfOk result (λ v. (map batch_record v.items ≡ map batch_of rows.now)
+        × AreRight (λ _. IsBatchRow) rows.now (length rows.now)) }
+    ensures wrong { IfErr result (FindsOrFails (IsRowOff Table.Batches (λ _. IsBatchRow) rows.now)) }
+{
     let mut batches = Vec::new(alloc);
-    let mut number = 0u64;
-    for row in rows {
-        number = number.saturating_add(1);
-        match state_numbered(row.state) {
-            Some(state) if good_name(row.name.as_str()) => batches.push(tb_replay::BatchRow {
-                name: row.name.as_str(),
-                state,
-                worker: row.worker.as_str(),
-            })?,
-            _ => return Err(Stop::Found(Misfit::Row(Table::Batches, number))),
+    for at in 0..rows.len() {
+        match batch_in(&rows[at]) {
+            Some(batch) => batches.push(batch)?,
+            None => return Err(Stop::Found(Misfit::Row(Table::Batches, at as u64 + 1))),
         }
     }
     Ok(batches)
@@ -335,26 +463,59 @@ fn has_its_rows(row: &SentenceRow, batches: usize, revisions: usize) -> bool
     row.batch != 0 && row.batch as usize <= batches && row.rev as usize == revisions
 }
 
+/// Why the look ends at the row of a sentence that cannot be read back.
+fn stop_of_unfit(unfit: Unfit, number: u64) -> Stop
+    ensures { result ≡ stop_of_unfit unfit number }
+{
+    match unfit {
+        Unfit::NotADesk => Stop::Found(Misfit::Sentence(number)),
+        Unfit::Memory => Stop::Failed,
+    }
+}
+
+/// The sentence with this number, read back from its row and from what it takes of the rest.
+fn next_sentence<'a>(
+    alloc: Global,
+    batches: usize,
+    number: u64,
+    row: &SentenceRow,
+    rest: &mut Rest<'a>,
+) -> Result<SentenceSummary<'a>, Stop>
+    ensures { (own : List AnyRevisionRow) × (is_pulled : Bool)
+        × Takes number own is_pulled rest.old.revisions.now rest.old.pulled.now rest.new.revisions.now
+        rest.new.pulled.now × MatchResult result
+        (λ entry. (x : Sentence) × IsSentenceRow batches number row.now own is_pulled x × (entry ≡ entry_of x))
+        (FindsOrFails (λ misfit. (misfit ≡ Misfit.Sentence number)
+        × ((x : Sentence) → ¬ IsSentenceRow batches number row.now own is_pulled x))) }
+{
+    let own = rest.revisions_of(number);
+    let pulled = rest.takes_pulled(number);
+    if !has_its_rows(row, batches, own.len()) {
+        return Err(Stop::Found(Misfit::Sentence(number)));
+    }
+    match entry_in(alloc, number, row, pulled, own) {
+        Ok(sentence) => Ok(sentence),
+        Err(unfit) => Err(stop_of_unfit(unfit, number)),
+    }
+}
+
 /// The sentences, each read back from its row and its revisions.
 fn sentences_in<'a>(
     alloc: Global,
     batches: usize,
     rows: &[SentenceRow],
-    mut rest: Rest<'a>,
-) -> Result<Vec<SentenceSummary<'a>>, Stop> {
+    revisions: &'a [RevisionRow],
+    pulled: &'a [u32],
+) -> Result<Vec<SentenceSummary<'a>>, Stop>
+    ensures right { IfOk result (λ v. (xs : List Sentence)
+        × AreAllRead batches rows.now revisions.now pulled.now xs × (v.items ≡ entries_of xs)) }
+    ensures wrong { IfErr result (FindsOrFails (IsWrongSentence batches rows.now revisions.now pulled.now)) }
+{
+    let mut rest = Rest { revisions, pulled };
     let mut sentences: Vec<SentenceSummary<'a>> = Vec::new(alloc);
-    let mut number = 0u64;
-    for row in rows {
-        number = number.saturating_add(1);
-        let own = rest.revisions_of(number);
-        if !has_its_rows(row, batches, own.len()) {
-            return Err(Stop::Found(Misfit::Sentence(number)));
-        }
-        match entry_in(alloc, number, row, rest.takes_pulled(number), own) {
-            Ok(sentence) => sentences.push(sentence)?,
-            Err(Unfit::NotADesk) => return Err(Stop::Found(Misfit::Sentence(number))),
-            Err(Unfit::Memory) => return Err(Stop::Failed),
-        }
+    for at in 0..rows.len() {
+        let sentence = next_sentence(alloc, batches, at as u64 + 1, &rows[at], &mut rest)?;
+        sentences.push(sentence)?;
     }
     match rest.first() {
         Some(number) => Err(Stop::Found(Misfit::Sentence(number))),
@@ -362,69 +523,194 @@ fn sentences_in<'a>(
     }
 }
 
+/// Why the look ends at the row of a move that cannot be read.
+fn stop_of_fault(fault: Fault, number: u64) -> Stop
+    ensures found { FindsOrFails (λ misfit. (misfit ≡ Misfit.Row Table.Moves number)
+        × (fault ≡ Fault.NotADesk)) result }
+    ensures sure { fault ≡ Fault.NotADesk → result ≡ Stop.Found (Misfit.Row Table.Moves number) }
+{
+    if fault != Fault::NotADesk {
+        return Stop::Failed;
+    }
+    Stop::Found(Misfit::Row(Table::Moves, number))
+}
+
+/// Whether the row is that of a move.
+fn read_move(alloc: Global, row: &MoveRow) -> Result<(), Fault>
+    ensures right { IfOk result (λ _. IsMoveRow row.now) }
+    ensures wrong { IfErr result (λ fault. fault ≡ Fault.NotADesk → ¬ IsMoveRow row.now) }
+{
+    read_moves(alloc, slice::from_ref(row))?;
+    Ok(())
+}
+
+/// Looks at the row with this number.
+fn look_at_move(alloc: Global, row: &MoveRow, number: u64) -> Result<(), Stop>
+    ensures right { IfOk result (λ _. IsMoveRow row.now) }
+    ensures wrong { IfErr result (FindsOrFails (λ misfit. (misfit ≡ Misfit.Row Table.Moves number)
+        × (¬ IsMoveRow row.now))) }
+{
+    match read_move(alloc, row) {
+        Ok(()) => Ok(()),
+        Err(fault) => Err(stop_of_fault(fault, number)),
+    }
+}
+
 /// The first move whose row no move has.
-fn look_at_moves(alloc: Global, rows: &[MoveRow]) -> Result<(), Stop> {
-    let mut number = 0u64;
-    for row in rows.chunks(1) {
-        number = number.saturating_add(1);
-        match read_moves(alloc, row) {
-            Ok(_) => {}
-            Err(Fault::NotADesk) => return Err(Stop::Found(Misfit::Row(Table::Moves, number))),
-            Err(_) => return Err(Stop::Failed),
-        }
+fn look_at_moves(alloc: Global, rows: &[MoveRow]) -> Result<(), Stop>
+    ensures right { IfOk result (λ _. AreRight (λ _. IsMoveRow) rows.now (length rows.now)) }
+    ensures wrong { IfErr result (FindsOrFails (IsRowOff Table.Moves (λ _. IsMoveRow) rows.now)) }
+{
+    for at in 0..rows.len() {
+        look_at_move(alloc, &rows[at], at as u64 + 1)?;
     }
     Ok(())
+}
+
+fn is_same(sum: u64, count: u32) -> bool
+    ensures { IsTrue result ↔ (sum ≡ count) }
+{
+    sum == u64::from(count)
+}
+
+/// Whether the sum at this place is this one.
+fn is_sum(sums: &[u64], at: usize, count: u32) -> bool
+    ensures { IsTrue result ↔ (at < length sums.now) × (slice_index sums.now at ≡ count) }
+{
+    match sums.get(at) {
+        Some(sum) => is_same(*sum, count),
+        None => false,
+    }
+}
+
+/// Whether the row has the sums at this place.
+fn has_sums(row: &TotalRow, at: usize, totals: &Totals) -> bool
+    ensures { IsTrue result ↔ HasSumsAt totals.now at row.now }
+{
+    is_sum(&totals.sentences, at, row.sentences) && is_sum(&totals.words, at, row.words)
+}
+
+/// Whether the row at this place has the sums there.
+fn has_sums_at(rows: &[TotalRow], at: usize, totals: &Totals) -> bool
+    ensures yes { IsTrue result → (d : AnyTotalRow) → HasSumsAt totals.now at (slice_index_or rows.now at d) }
+    ensures no { result ≡ false → at < length rows.now → (d : AnyTotalRow)
+        → ¬ HasSumsAt totals.now at (slice_index_or rows.now at d) }
+{
+    match rows.get(at) {
+        Some(row) => has_sums(row, at, totals),
+        None => false,
+    }
+}
+
+/// Whether each state has a row.
+fn has_six(rows: &[TotalRow]) -> bool
+    ensures yes { IsTrue result → 6 ≤ length rows.now }
+    ensures no { result ≡ false → length rows.now < 6 }
+{
+    rows.len() >= 6
 }
 
 /// The first row of the totals that does not have the sums of its state.
-fn look_at_totals(rows: &[TotalRow], totals: &Totals) -> Result<(), Stop> {
-    let mut number = 0u64;
-    for row in rows {
-        let sums = (
-            totals.sentences.get(number as usize),
-            totals.words.get(number as usize),
-        );
-        number = number.saturating_add(1);
-        match sums {
-            (Some(sentences), Some(words))
-                if *sentences == u64::from(row.sentences) && *words == u64::from(row.words) => {}
-            _ => return Err(Stop::Found(Misfit::Row(Table::Totals, number))),
+fn look_at_totals(rows: &[TotalRow], totals: &Totals) -> Result<(), Stop>
+    ensures right { IfOk result (λ _. AreRightTotals totals.now rows.now) }
+    ensures wrong { IfErr result (Finds (IsWrongTotal totals.now rows.now)) }
+{
+    for at in 0..rows.len() {
+        if !has_sums_at(rows, at, totals) {
+            return Err(Stop::Found(Misfit::Row(Table::Totals, at as u64 + 1)));
         }
     }
-    if rows.len() < 6 {
-        return Err(Stop::Found(Misfit::Missing(Table::Totals, number.saturating_add(1))));
+    if !has_six(rows) {
+        return Err(Stop::Found(Misfit::Missing(Table::Totals, rows.len() as u64 + 1)));
     }
     Ok(())
 }
 
+/// Looks at the totals of these batches and sentences. Where each row is right by itself, the moves do not lead to the
+/// others.
+fn look_at_sums(
+    rows: &[TotalRow],
+    batches: &[tb_replay::BatchRow<'_>],
+    sentences: &[SentenceSummary<'_>],
+) -> Stop
+    ensures { (xs : List Sentence) → sentences.now ≡ entries_of xs
+        → Finds (IsFirstInSums batches.now xs rows.now) result }
+{
+    match totals_of(batches, sentences) {
+        Some(sums) => match look_at_totals(rows, &sums) {
+            Ok(()) => Stop::Found(Misfit::Moves),
+            Err(stop) => stop,
+        },
+        None => Stop::Found(Misfit::Moves),
+    }
+}
+
+/// Looks at the tables of moves and of totals, where these are the batches and the sentences.
+fn look_from_moves<T: Tables>(
+    alloc: Global,
+    tables: &mut T,
+    batches: &[tb_replay::BatchRow<'_>],
+    sentences: &[SentenceSummary<'_>],
+) -> Result<(), Stop>
+    ensures { (said : Said) → T.says tables.old ≡ Some said → (xs : List Sentence)
+        → sentences.now ≡ entries_of xs → IfErr result (FindsOrFails (IsFirstInMoves said batches.now xs)) }
+{
+    let read = tables.moves(alloc);
+    let moves = rows_of(tables, Table::Moves, read)?;
+    look_at_moves(alloc, moves.as_slice())?;
+    let read = tables.totals(alloc);
+    let totals = rows_of(tables, Table::Totals, read)?;
+    Err(look_at_sums(totals.as_slice(), batches, sentences))
+}
+
+/// Looks at the tables from that of the sentences on, where these are the batches.
+fn look_from_sentences<T: Tables>(
+    alloc: Global,
+    tables: &mut T,
+    batches: &[tb_replay::BatchRow<'_>],
+) -> Result<(), Stop>
+    ensures { (said : Said) → T.says tables.old ≡ Some said
+        → IfErr result (FindsOrFails (IsFirstInSentences said batches.now)) }
+{
+    let read = tables.sentences(alloc);
+    let rows = rows_of(tables, Table::Sentences, read)?;
+    let read = tables.revisions(alloc);
+    let revisions = keyed_rows(read, "revisions")?;
+    let read = tables.pulled(alloc);
+    let pulled = keyed_rows(read, "pulled")?;
+    let sentences = sentences_in(
+        alloc,
+        batches.len(),
+        rows.as_slice(),
+        revisions.as_slice(),
+        pulled.as_slice(),
+    )?;
+    look_from_moves(alloc, tables, batches, sentences.as_slice())
+}
+
+/// Looks at the tables from that of the batches on.
+fn look_from_batches<T: Tables>(alloc: Global, tables: &mut T) -> Result<(), Stop>
+    ensures { (said : Said) → T.says tables.old ≡ Some said
+        → IfErr result (FindsOrFails (IsFirstInBatches said)) }
+{
+    let read = tables.batches(alloc);
+    let rows = rows_of(tables, Table::Batches, read)?;
+    let batches = batches_in(alloc, rows.as_slice())?;
+    look_from_sentences(alloc, tables, batches.as_slice())
+}
+
 /// Looks at all tables in turn. Where each row is right by itself, the moves do not lead to the others.
-fn look<S: Alter>(alloc: Global, conn: &mut Connection<S>) -> Result<(), Stop> {
-    if !has_desk_schema(conn) {
+fn look<T: Tables>(alloc: Global, tables: &mut T) -> Result<(), Stop>
+    ensures { (said : Said) → T.says tables.old ≡ Some said
+        → IfErr result (FindsOrFails (IsFirstMisfit said)) }
+{
+    if !tables.has_schema() {
         return Err(Stop::Found(Misfit::Tables));
     }
-    let versions = tb_reads::versions(alloc, conn);
-    look_at_version(&keyed_rows(versions, "meta")?)?;
-    let read = tb_reads::batches(alloc, conn);
-    let batch_rows = rows_of(conn, Table::Batches, read)?;
-    let batches = batches_in(alloc, &batch_rows)?;
-    let read = tb_reads::sentences(alloc, conn);
-    let sentence_rows = rows_of(conn, Table::Sentences, read)?;
-    let revisions = keyed_rows(tb_reads::revisions(alloc, conn), "revisions")?;
-    let pulled = keyed_rows(tb_reads::pulled(alloc, conn), "pulled")?;
-    let rest = Rest {
-        revisions: &revisions,
-        pulled: &pulled,
-    };
-    let sentences = sentences_in(alloc, batches.len(), &sentence_rows, rest)?;
-    let read = tb_reads::moves(alloc, conn);
-    look_at_moves(alloc, &rows_of(conn, Table::Moves, read)?)?;
-    let read = tb_reads::totals(alloc, conn);
-    let totals = rows_of(conn, Table::Totals, read)?;
-    match totals_of(&batches, &sentences) {
-        Some(sums) => look_at_totals(&totals, &sums)?,
-        None => {}
-    }
-    Err(Stop::Found(Misfit::Moves))
+    let read = tables.versions(alloc);
+    let versions = keyed_rows(read, "meta")?;
+    look_at_version(versions.as_slice())?;
+    look_from_batches(alloc, tables)
 }
 
 /// What a look has found.
@@ -436,6 +722,13 @@ fn found_by(looked: Result<(), Stop>) -> Option<Misfit>
         Err(Stop::Failed) => None,
         Ok(()) => None,
     }
+}
+
+/// What is wrong first with these tables; none where memory or the store fails.
+fn misfit_in<T: Tables>(alloc: Global, tables: &mut T) -> Option<Misfit>
+    ensures { (said : Said) → T.says tables.old ≡ Some said → IfSome result (IsFirstMisfit said) }
+{
+    found_by(look(alloc, tables))
 }
 
 /// The rows of a file that is no desk.
@@ -455,6 +748,6 @@ impl<S: Alter> Rows for Connection<S> {
     ghost IsMisfit = { λ _ _. Unit {0} };
 
     fn first_misfit(&mut self, alloc: Global) -> Option<Misfit> {
-        found_by(look(alloc, self))
+        misfit_in(alloc, self)
     }
 }
