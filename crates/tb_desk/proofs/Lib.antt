@@ -3,8 +3,10 @@ mod Asked
 mod Awaiting
 mod Making
 mod Noted
+mod Pausing
 mod Ran
 mod Rooms
 mod Served
 mod Shut
 mod Staying
+mod Telling

@@ -1,5 +1,5 @@
 -- A line on a desk, whether or not its body came, and what is read of the desk after its answer.
-use Rattle.std.proofs.Common.{◌≡◌, ◌≢◌, ◌∙◌, ℕ, List, Option, Result, Ok, Err, MatchResult, refl, sym, arith, le_trans, inl, inr}
+use Rattle.std.proofs.Common.{◌≡◌, ◌≢◌, ◌∙◌, ℕ, List, Bool, true, false, Option, Result, Ok, Err, MatchResult, refl, sym, arith, le_trans, inl, inr}
 use Rattle.std.proofs.lemmas.Bool.{false≢true}
 use Rattle.sqlite.specs.Store.{Ghosts}
 use Rattle.sqlite.specs.Held.{state}
@@ -12,8 +12,9 @@ use Rattle.tb_store.specs.Kept.{Kept}
 use Rattle.tb_store.specs.Represents.{Represents}
 use Rattle.tb_http.specs.declared.replies.Reply.{Reply}
 use Rattle.tb_cli.specs.Lines.{Said}
-use Rattle.tb_answer.specs.Taken.{IsTaken}
-use Rattle.tb_desk.specs.Lines.{LeavesInput}
+use Rattle.tb_check.specs.Check.{file_limit}
+use Rattle.tb_answer.specs.Taken.{IsBodyAskedFor, IsTaken, has_body}
+use Rattle.tb_desk.specs.Lines.{AsksForBody, LeavesInput}
 use Rattle.tb_desk.specs.Running.{KeepsDesk, taken_of}
 
 module _ {S : Type 0} {g : Ghosts S} where
@@ -61,3 +62,18 @@ module _ {R Why : Type 0} (is_failure : R → Why → Type 0) (left : R → Opti
       → MatchResult body (λ v. IsTaken is_failure left limit said old new (Ok (items v))) (λ r. IsTaken is_failure left limit said old new (Err r))
       → LeavesInput old new said
   input_left items body came = untaken (taken_of items body) (taken_so items body (IsTaken is_failure left limit said old new) came)
+
+-- the body of a line is asked for once, and where it has none nothing is asked
+pub body_asked : {R Why V : Type 0} (is_failure : R → Why → Type 0) (left : R → Option (List ℕ)) (pieces : R → Option (List (List ℕ))) (said : Said) (old new : R) (items : V → List ℕ) (body : Result V Reply)
+    → MatchResult body (λ v. IsTaken is_failure left file_limit said old new (Ok (items v))) (λ r. IsTaken is_failure left file_limit said old new (Err r))
+    → (has_body said ≡ true → MatchResult body (λ v. IsBodyAskedFor file_limit (pieces old) (pieces new) (Ok (items v))) (λ r. IsBodyAskedFor file_limit (pieces old) (pieces new) (Err r)))
+    → AsksForBody is_failure left pieces old new said
+body_asked is_failure left pieces said old new items body came asked = by_body (has_body said) refl
+  where
+    by_body : (b : Bool) → has_body said ≡ b → AsksForBody is_failure left pieces old new said
+    by_body true has = inr (
+      taken_of items body,
+      taken_so items body (λ t. IsTaken is_failure left file_limit said old new t) came,
+      taken_so items body (λ t. IsBodyAskedFor file_limit (pieces old) (pieces new) t) (asked has),
+    )
+    by_body false none = inl (input_left is_failure left file_limit said old new items body came none)

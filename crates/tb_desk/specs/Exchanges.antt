@@ -1,9 +1,10 @@
 -- Inner: no contract beyond this crate cites a definition of this module.
 -- What is done for one request, from the first look at the desk's files on.
-use Rattle.std.specs.Prelude.{◌≡◌, ◌⊎◌, ◌++◌, List, [], ◌∷◌, Bool, true, false, ⊤, Option, None, Some, Result, Ok, Err}
+use Rattle.std.specs.Prelude.{◌≡◌, ◌≢◌, ◌⊎◌, ◌++◌, List, [], ◌∷◌, Bool, true, false, ⊤, Option, None, Some, Result, Ok, Err}
 use Rattle.tb_http.specs.declared.replies.Reply.{Reply}
 use Rattle.tb_http.specs.declared.replies.Reply.TheVariants as reply
 use Rattle.tb_http.specs.declared.status.Status.{Status}
+use Rattle.tb_http.specs.declared.status.Status.TheVariants.{ServiceUnavailable}
 use Rattle.tb_answer.specs.declared.answering.Broken.{Broken}
 use Rattle.tb_answer.specs.declared.answering.Broken.TheVariants as broken
 use Rattle.tb_host.specs.declared.causes.Cause.{Cause}
@@ -59,10 +60,14 @@ led_to tried.Lost moved shut = Ok false
 led_to tried.Memory moved shut = Ok true
 led_to (tried.Answered answered) moved shut = ended_by answered moved shut
 
+-- A store counts as shut only after a response that says that something failed.
+abbrev pub IsShutFor : Tried → (is_shut : Bool) → Type 0
+IsShutFor came shut = (code : Status) → came ≡ tried.Answered (Ok code) → code ≢ ServiceUnavailable → shut ≡ false
+
 -- Nothing is done on files that have left their place. Else the request is answered once.
 abbrev pub IsExchange : (old new : Option (List ExchangeStep)) → Result Bool Cause → Type 0
 IsExchange old new result = (Adds old new (looked true) × (result ≡ Err cause.FilesMoved))
-    ⊎ ((tried : Tried) × (moved shut : Bool)
+    ⊎ ((tried : Tried) × (moved shut : Bool) × IsShutFor tried shut
     × Adds old new (looked_for false ∷ (attempted tried ++ after tried moved)) × (result ≡ led_to tried moved shut))
 
 -- why a desk cannot be served any further

@@ -1,15 +1,10 @@
 -- Inner: no contract beyond this crate cites a definition of this module.
 -- What is explained beside an answer.
-use Rattle.std.specs.Prelude.{◌≡◌, ◌&&◌, ◌++◌, List, [], ◌∷◌, ℕ, length, nat_lt, Bool, if◌then◌else◌}
+use Rattle.std.specs.Prelude.{◌≡◌, ◌&&◌, ◌++◌, List, [], ◌∷◌, ℕ, length, nat_lt, Bool, false, if◌then◌else◌}
 use Rattle.std.specs.Prelude.{Option, Some, None, IfSome, is_some, ⊤}
 use Rattle.tb_answer.specs.declared.written.Written.{Written}
 use Rattle.tb_answer.specs.declared.written.Written.TheVariants as written
-use Rattle.tb_check.specs.declared.input.Input.{Input}
-use Rattle.tb_check.specs.declared.input.Input.TheVariants.{Whole}
-use Rattle.tb_check.specs.declared.reply.CheckReply.{CheckReply}
-use Rattle.tb_check.specs.declared.reply.CheckReply.TheVariants as check
 use Rattle.tb_cli.specs.Lines.{Said, import_batch, step_batch, correct, pull, restore, export, search, count}
-use Rattle.tb_core.specs.declared.refusals.Refusal.TheVariants as refusal
 use Rattle.tb_words.specs.declared.refusals.Asked.{Asked}
 use Rattle.tb_words.specs.declared.refusals.Asked.TheVariants as asks
 use Rattle.tb_words.specs.Explained.{is_explained}
@@ -17,9 +12,8 @@ use Rattle.tb_host.specs.Reported.{IsOfAnswer}
 use Rattle.tb_host.specs.declared.diagnostics.Diagnostic.{Diagnostic}
 use Rattle.tb_host.specs.declared.causes.Cause.{Cause}
 use Rattle.tb_host.specs.declared.causes.Cause.TheVariants.{NothingKept, NothingThere}
-use Rattle.tb_http.specs.declared.asks.RequestFault.TheVariants as request
 use Rattle.tb_http.specs.declared.replies.Reply.{Reply}
-use Rattle.tb_http.specs.declared.replies.Reply.TheVariants as reply
+use Rattle.tb_desk.specs.Told.{IsOwnCause}
 
 -- What a user has to know of a line that was done on a desk in memory: nothing was there to read, or nothing is kept.
 abbrev pub cause_in_memory : Said → Option Cause
@@ -46,19 +40,14 @@ IsAskedBy (search db strategy context query) _ = ⊥
 IsAskedBy (count db strategy column query) _ = ⊥
 IsAskedBy _ asked = asked ≡ asks.Other
 
--- the desk's reply that says the same as the check's, where there are words for it
-abbrev pub reply_as_the_desk : CheckReply → Option Reply
-reply_as_the_desk (check.Counts sentences words) = None
-reply_as_the_desk check.Device = None
-reply_as_the_desk (check.Read line code) = Some (reply.Refused (refusal.Read line code))
-reply_as_the_desk (check.Rule sentence rule row) = Some (reply.Refused (refusal.Rule sentence rule row))
-reply_as_the_desk check.Long = Some (reply.Faulty request.Long)
-reply_as_the_desk check.Memory = Some reply.Memory
-
 -- a reply is explained in words, where words are wanted and there are some for it
 abbrev pub IsExplained : (is_wanted : Bool) → Reply → (reported : Option Diagnostic) → Type 0
 IsExplained is_wanted r reported = (is_some reported ≡ (is_wanted && is_explained r))
     × IfSome reported (λ d. IsOfAnswer d.cause)
+
+-- where no words are wanted, what is reported is a cause of its own
+abbrev pub ReportsNoWords : (is_wanted : Bool) → (reported : Option Diagnostic) → Type 0
+ReportsNoWords is_wanted reported = is_wanted ≡ false → IfSome reported (λ d. IsOwnCause d.cause)
 
 -- the same of what was written, where it is a reply
 abbrev pub IsExplainedAs : (is_wanted : Bool) → Written → (reported : Option Diagnostic) → Type 0

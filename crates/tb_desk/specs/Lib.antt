@@ -1,10 +1,12 @@
 pub mod Arriving
 pub mod Callers
+pub mod Checked
 pub mod Clients
 pub mod Drawing
 pub mod Exchanges
 pub mod Explaining
 pub mod Faults
+pub mod Leaving
 pub mod Lines
 pub mod Programs
 pub mod Replies
@@ -14,5 +16,6 @@ pub mod Served
 pub mod Serving
 pub mod Sockets
 pub mod Targets
+pub mod Told
 pub mod Viewing
 pub mod Waiting

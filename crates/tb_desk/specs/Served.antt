@@ -56,9 +56,10 @@ module _ {Reason : Type 0} (held holds : Option (List ℕ)) (is_refusal : Reason
     pub written : IsReplyWritten held holds is_refusal status reply.Device
     pub told : is_told (Some (cause.Port why))
 
-  -- The line with the port was not taken, or not handed on. Nothing more is written.
+  -- The line with the port was not taken, or not handed on, for one of the sink's reasons. Nothing more is written.
   pub record IsUnheard (number : ℕ) : Type 0 where
     pub part : AppendsPart held holds (listening number)
+    pub why : (reason : Reason) × is_refusal reason
     pub ends : status ≡ 3
     pub told : is_told None
 

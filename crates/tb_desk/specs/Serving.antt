@@ -7,6 +7,9 @@ use Rattle.std.specs.IoError.{error_kind}
 use Rattle.std.specs.declared.io.Error.{Error}
 use Rattle.std.specs.declared.io.ErrorKind.{ErrorKind}
 use Rattle.std.specs.declared.io.ErrorKind.TheVariants as kind
+use Rattle.tb_conllu.specs.Pieces.{AskedFor}
+use Rattle.tb_http.specs.Asks.{body_limit}
+use Rattle.tb_http.specs.Faults.{AwaitsMore, IsAtMostOne, TakenAfter}
 use Rattle.tb_http.specs.declared.status.Status.{Status}
 use Rattle.tb_answer.specs.declared.answering.Broken.{Broken}
 use Rattle.tb_answer.specs.declared.answering.Broken.TheVariants as broken
@@ -34,6 +37,14 @@ ended_by (Ok status) moved false = Ok true
 ended_by (Err broken.Read) true shut = Err cause.FilesMoved
 ended_by (Err broken.Read) false shut = Ok false
 ended_by (Err broken.Write) moved shut = Ok false
+
+-- The reader of a request is read while a part of it is missing, and at most one request is taken. Of a reader that
+-- failed it is not said which reads were made.
+abbrev pub ReadsOne : (pieces rest : Option (List (List ℕ))) → (unread left : Option (List ℕ)) → Result Status Broken
+    → Type 0
+ReadsOne pieces rest unread left result =
+    (result ≢ Err broken.Read → (taken : List ℕ) × AskedFor (AwaitsMore body_limit) [] pieces rest taken)
+    × TakenAfter [] unread left (IsAtMostOne body_limit)
 
 -- the port of the page, for a server at this port that has one
 abbrev pub page_at : Beside → (port : ℕ) → Option ℕ

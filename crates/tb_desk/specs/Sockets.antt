@@ -1,7 +1,7 @@
 -- Inner: no contract beyond this crate cites a definition of this module.
 -- The calls of the system that a server makes at its sockets and its clock, with what came of each.
-use Rattle.std.specs.Prelude.{◌≡◌, ◌⊎◌, ◌++◌, ℕ, List, [], ◌∷◌, Bool, true, false, ⊤, Option, None, Some}
-use Rattle.std.specs.Prelude.{Result, Ok, Err, is_ok, not}
+use Rattle.std.specs.Prelude.{◌≡◌, ◌⊎◌, ◌++◌, ◌≤◌, ◌+◌, ℕ, List, [], ◌∷◌, Bool, true, false, ⊤, Option, None, Some}
+use Rattle.std.specs.Prelude.{Result, Ok, Err, is_ok, nat_eq, not, if◌then◌else◌}
 use Rattle.std.specs.Result.{result_err}
 use Rattle.std.specs.declared.io.Error.{Error}
 use Rattle.std.specs.declared.net.tcp.TcpListener.{TcpListener}
@@ -89,6 +89,28 @@ FailsFarewell old new stream e = Makes old new (write_shut stream (Err e) ∷ []
 abbrev pub pause_if : Bool → List Call
 pause_if true = slept (milliseconds 2) ∷ []
 pause_if false = []
+
+-- how many calls asked a listener for a connection where none came, and how many paused for as long as after a look
+abbrev pub vain_by : Call → ℕ
+vain_by (accepted listener (Err e)) = 1
+vain_by _ = 0
+
+abbrev pub vain_in : List Call → ℕ
+vain_in [] = 0
+vain_in (call ∷ more) = vain_by call + vain_in more
+
+abbrev pub pauses_by : Call → ℕ
+pauses_by (slept nanos) = if nat_eq nanos (milliseconds 2) then 1 else 0
+pauses_by _ = 0
+
+abbrev pub pauses_in : List Call → ℕ
+pauses_in [] = 0
+pauses_in (call ∷ more) = pauses_by call + pauses_in more
+
+-- Each time that no connection came, but for the last time, a pause was made, and no other.
+abbrev pub PausesInVain : (old new : Option (List Call)) → Type 0
+PausesInVain old new = (made : List Call) × Makes old new made × (pauses_in made ≤ vain_in made)
+    × (vain_in made ≤ pauses_in made + 1)
 
 -- calls were made, and this one was the last of them
 abbrev pub EndsBy : (old new : Option (List Call)) → Call → Type 0

@@ -1,5 +1,6 @@
 -- What `deskview` shows of a desk, and its exit status.
-use Rattle.std.specs.Prelude.{◌≡◌, ◌≢◌, ◌⊎◌, ℕ, List, true, Option, Some, None, Err, bytes_eq, codes, if◌then◌else◌}
+use Rattle.std.specs.Prelude.{◌≡◌, ◌≢◌, ◌⊎◌, ℕ, List, Bool, true, Option, Some, None, Err, bytes_eq, codes}
+use Rattle.std.specs.Prelude.{if◌then◌else◌}
 use Rattle.clap.specs.Words.{fault_of, takes, subcommand_of}
 use Rattle.sqlite.specs.Files.{over_files}
 use Rattle.sqlite.specs.Store.{Ghosts}
@@ -10,6 +11,7 @@ use Rattle.tb_cli.specs.View.{Listed, Viewed, check, find, lists, page, trees, v
 use Rattle.tb_store.specs.Calls.{InState}
 use Rattle.tb_store.specs.Kept.{Kept}
 use Rattle.tb_answer.specs.Commanded.{HasFailed}
+use Rattle.tb_answer.specs.OnlyRead.{IsOnlyRead}
 use Rattle.tb_answer.specs.Output.{IsWritten}
 use Rattle.tb_answer.specs.Viewed.{IsView, IsViewReported}
 use Rattle.tb_words.specs.declared.refusals.Asked.{Asked}
@@ -22,6 +24,7 @@ use Rattle.tb_desk.specs.Faults.{AreFaultsListed}
 use Rattle.tb_host.specs.Opened.{IsSomeDesk}
 use Rattle.tb_desk.specs.Replies.{AreNoLine, IsFileRefused, IsReplyWritten}
 use Rattle.tb_desk.specs.Served.{IsServedInFile, page_service}
+use Rattle.tb_desk.specs.Told.{IsExplainedBy, WithTold}
 
 -- What a command lacks whose values have their forms: the file of a desk. A tree needs a number too.
 abbrev pub lacking : (command : List ℕ) → Cause
@@ -39,35 +42,40 @@ IsAskedOf (find id) _ = ⊥
 IsAskedOf _ asked = asked ≡ asks.Other
 
 module _ {Reason S : Type 0} (g : Ghosts S) (held holds : Option (List ℕ)) (is_refusal : Reason → Type 0)
-    (status : ℕ) where
-  -- The list of the state that the desk represents is written, or the line of why there is none.
+    (status : ℕ) (is_wanted : Bool) (is_told : Option Cause → Type 0) where
+  -- The list of the state that the desk represents is written, or the line of why there is none. That is explained where
+  -- words are wanted.
   abbrev pub IsShown : (old new : Kept S) → Listed → Type 0
   IsShown old new list = InState g old new (λ s.
-      ((text : List ℕ) × IsView s list text × IsWritten held holds text 0 is_refusal status)
-      ⊎ ((r : Reply) × IsViewReported (HasFailed g old new) s list r × IsReplyWritten held holds is_refusal status r))
+      ((text : List ℕ) × IsView s list text × IsWritten held holds text 0 is_refusal status × is_told None)
+      ⊎ ((r : Reply) × IsViewReported (HasFailed g old new) s list r × IsReplyWritten held holds is_refusal status r
+      × WithTold is_told (IsExplainedBy is_wanted r)))
 
 module _ {Reason : Type 0} (held holds : Option (List ℕ)) (is_refusal : Reason → Type 0) (status : ℕ)
-    (is_told : Option Cause → Type 0) where
-  -- there was a desk in the file, and its list is shown
+    (is_wanted : Bool) (is_told : Option Cause → Type 0) where
+  -- there was a desk in the file, its list is shown, and the desk is only read
   pub record IsShownInFile (list : Listed) : Type 0 where
     pub opened : FileDesk
     pub ended : FileDesk
     pub is : IsSomeDesk over_files opened.desk
-    pub shown : IsShown over_files held holds is_refusal status opened.desk ended.desk list
+    pub shown : IsShown over_files held holds is_refusal status is_wanted is_told opened.desk ended.desk list
+    pub read_only : IsOnlyRead over_files opened.desk ended.desk
 
   -- the list is shown, or the line of a fault of the file is written
   abbrev pub IsListRun : Listed → Type 0
   IsListRun list = IsFileRefused held holds is_refusal status is_told ⊎ IsShownInFile list
 
-module _ {R Why Reason : Type 0} (is_failure : R → Why → Type 0) (unread : R → Option (List ℕ)) (before after : R)
-    (held holds : Option (List ℕ)) (is_refusal : Reason → Type 0) (status : ℕ) (is_told : Option Cause → Type 0) where
+module _ {R Why Reason : Type 0} (is_failure : R → Why → Type 0) (unread : R → Option (List ℕ))
+    (pieces : R → Option (List (List ℕ))) (before after : R) (held holds : Option (List ℕ))
+    (is_refusal : Reason → Type 0) (status : ℕ) (is_wanted : Bool) (is_told : Option Cause → Type 0) where
   -- How a line ends: only trees of a file and a check read the input. What the server of a page answers is said request
   -- by request.
   abbrev pub IsViewRun : Viewed → Type 0
-  IsViewRun (lists db list) = (after ≡ before) × IsListRun held holds is_refusal status is_told list
-  IsViewRun trees = AreTreesDrawn (is_failure after) (unread before) (unread after) held holds is_refusal status
-  IsViewRun (check most) =
-      AreFaultsListed (is_failure after) (unread before) (unread after) held holds is_refusal status most
+  IsViewRun (lists db list) = (after ≡ before) × IsListRun held holds is_refusal status is_wanted is_told list
+  IsViewRun trees = AreTreesDrawn (is_failure after) (unread before) (unread after) (pieces before) (pieces after) held
+      holds is_refusal status is_wanted is_told
+  IsViewRun (check most) = AreFaultsListed (is_failure after) (unread before) (unread after) (pieces before)
+      (pieces after) held holds is_refusal status is_wanted is_told most
   IsViewRun (page db port) = (after ≡ before)
       × IsServedInFile held holds is_refusal status is_told (page_service port)
 

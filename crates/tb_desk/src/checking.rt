@@ -1,15 +1,18 @@
 //! The check of a file, with the words for its answer while the file is at hand.
 
 ghost use Rattle.std.specs.Prelude.{◌≡◌, MatchOption, None};
-ghost use Rattle.tb_check.specs.Check.{Answers, IsReplyToTaken, IsWritten, file_limit, reply_text, status_of};
-ghost use Rattle.tb_desk.specs.Explaining.{IsExplained, reply_as_the_desk};
+ghost use Rattle.tb_check.specs.Check.{Answers, IsWritten, reply_text, status_of};
+ghost use Rattle.tb_desk.specs.Checked.{IsReplyToAsked};
+ghost use Rattle.tb_desk.specs.Explaining.{IsExplained};
+ghost use Rattle.tb_desk.specs.Told.{IsCheckExplainedBy, WithTold, reply_as_the_desk};
+ghost use Rattle.tb_host.specs.Reported.{IsTold};
 
 use crate::explaining::explained;
 use std::alloc::Global;
 use tb_check::{CheckReply, FILE_LIMIT, Input, check_input, put_reply, read_all};
 use tb_conllu::{Sink, Source};
 use tb_core::Refusal;
-use tb_host::{Diagnostic, Outcome, wants_words};
+use tb_host::{Diagnostic, Outcome};
 use tb_http::{Reply, RequestFault};
 use tb_words::Asked;
 
@@ -21,7 +24,8 @@ struct Checked {
 }
 
 fn check_source<R: Source>(alloc: Global, source: &mut R) -> Checked
-    ensures { IsReplyToTaken (R.IsFailure source.new) file_limit (R.left source.old) (R.left source.new) result.reply }
+    ensures { IsReplyToAsked (R.IsFailure source.new) (R.left source.old) (R.left source.new) (R.pieces source.old)
+        (R.pieces source.new) result.reply }
 {
     let input = read_all(alloc, source, FILE_LIMIT);
     let reply = check_input(alloc, &input, FILE_LIMIT);
@@ -71,18 +75,22 @@ pub(crate) fn put_check<S: Sink>(out: &mut S, reply: CheckReply) -> u8
     put_reply(out, reply.line().as_str(), reply.status())
 }
 
-/// Checks what the source gives, up to 4,194,304 bytes, as `run_check` does, and explains a refusal.
+/// Checks what the source gives, up to 4,194,304 bytes, as `run_check` does, and explains a refusal where words are
+/// wanted.
 pub(crate) fn check_reported<R: Source, S: Sink>(
-    rt: &HostRuntime,
+    alloc: Global,
+    is_wanted: bool,
     source: &mut R,
     out: &mut S,
 ) -> Outcome
-    ensures { Answers (IsReplyToTaken (R.IsFailure source.new) file_limit (R.left source.old) (R.left source.new))
+    ensures { Answers (λ reply. IsReplyToAsked (R.IsFailure source.new) (R.left source.old) (R.left source.new)
+        (R.pieces source.old) (R.pieces source.new) reply
+        × WithTold (IsTold result.reported) (IsCheckExplainedBy is_wanted reply))
         (S.held out.old) (S.held out.new) (S.IsRefusal out.new) result.status }
 {
-    let Checked { reply, input } = check_source(rt.alloc(), source);
+    let Checked { reply, input } = check_source(alloc, source);
     Outcome {
         status: put_check(out, reply),
-        reported: reported_of_check(rt.alloc(), wants_words(rt), reply, &input),
+        reported: reported_of_check(alloc, is_wanted, reply, &input),
     }
 }

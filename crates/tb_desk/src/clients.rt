@@ -24,11 +24,15 @@ pub(crate) trait Clients {
     // the desk has files, which may leave their place
     ghost HasFiles: { Self → Type 0 };
 
+    // no connection can be waited for any more
+    ghost HasFailed: { Self → Type 0 };
+
     /// Waits for a connection with a request, or one whose time is over.
     fn next(&mut self) -> io::Result<Option<Next>>
         ensures kept { HasFiles self.new → HasFiles self.old }
         ensures noted { IfOk result (λ next. IsNoted (noted self.old) (noted self.new) (with_next next)) }
-        ensures failed { IfErr result (λ _. noted self.new ≡ noted self.old) };
+        ensures failed { IfErr result (λ _. noted self.new ≡ noted self.old) }
+        ensures lost { IfErr result (λ _. HasFailed self.new) };
 
     /// Answers the request of a connection. Returns whether the client has a whole answer.
     fn serve<S: Alter>(&mut self, desk: &mut Desk<S>, caller: &Caller) -> Result<bool, Cause>
@@ -141,6 +145,7 @@ pub(crate) fn serve_all<S: Alter, C: Clients>(
         after.partings ≡ before.partings + 1) }
     ensures cause { IfErr result IsServerEnd }
     ensures early { IfErr result (λ _. requests ≢ 0) }
+    ensures lost { result ≡ ErrOf Cause.NoConnections → C.HasFailed clients.new }
     ensures in_memory { result ≡ ErrOf Cause.FilesMoved → C.HasFiles clients.old }
     ensures limits { desk.new.limits ≡ desk.old.limits }
 {

@@ -2,23 +2,48 @@
 //! not known; that they are made is.
 
 ghost use Rattle.std.specs.Prelude.{◌≡◌, ◌≤◌, ◌+◌, ◌-◌, ◌^◌, [], ◌∷◌, IfOk, length, min, take};
+ghost use Rattle.tb_desk.specs.Serving.{end_after};
 ghost use Rattle.tb_desk.specs.Sockets.{Makes, accepted};
 
+use crate::callers::is_none_yet;
 use crate::sockets::Sockets;
 use std::io::{self, Read};
 use std::net::{TcpListener, TcpStream};
 
-/// How many times a connection was read. Only a read counts.
+/// Whether a connection sends nothing more, by a read of it. A read of some bytes says nothing.
+fn end_after(came: &io::Result<usize>) -> Option<bool>
+    ensures { result ≡ end_after came.now }
+{
+    match came {
+        Ok(0) => Some(true),
+        Ok(_) => None,
+        Err(error) => Some(!is_none_yet(error.kind())),
+    }
+}
+
+/// How many times a connection was read, and what the last read said of its end. Only a read counts, or says that.
 #[derive(Drop)]
 pub(crate) struct ReadCount {
     count: u64,
+    /// Whether the connection sends nothing more. It is not known before the first read, and after one of some bytes.
+    end: Option<bool>,
 }
 
 impl ReadCount {
     pub(crate) fn new() -> ReadCount
         ensures { result.count ≡ 0 }
     {
-        ReadCount { count: 0 }
+        ReadCount {
+            count: 0,
+            end: None,
+        }
+    }
+
+    /// Whether the connection sends nothing more, by the last read.
+    pub(crate) fn end(&self) -> Option<bool>
+        ensures { result ≡ self.now.end }
+    {
+        self.end
     }
 
     /// Reads into the part of a buffer after its first bytes, which stay.
@@ -30,6 +55,7 @@ impl ReadCount {
     ) -> io::Result<usize>
         ensures counted { filled ≤ length room.old → self.new.count ≡ min (self.old.count + 1) (2 ^ 64 - 1) }
         ensures kept { self.old.count ≤ self.new.count }
+        ensures said { filled ≤ length room.old → self.new.end ≡ end_after result }
         ensures length { length room.new ≡ length room.old }
         ensures stays { take filled room.new ≡ take filled room.old }
         ensures bound { filled ≤ length room.old → IfOk result (λ n. filled + n ≤ length room.old) }
@@ -39,7 +65,9 @@ impl ReadCount {
         }
         self.count = self.count.saturating_add(1);
         let (_, rest) = room.split_at_mut(filled);
-        stream.read(rest)
+        let came = stream.read(rest);
+        self.end = end_after(&came);
+        came
     }
 }
 

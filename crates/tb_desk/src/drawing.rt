@@ -5,6 +5,7 @@ ghost use Rattle.tb_check.specs.Check.{file_limit};
 ghost use Rattle.tb_check.specs.Input.{IsWithin};
 ghost use Rattle.tb_desk.specs.Drawing.{AreTreesDrawn, IsDrawingWritten, IsDrawn, IsDrawnFile, IsUndrawn, IsUndrawnFile};
 ghost use Rattle.tb_assets.specs.Trees.{trees_page};
+ghost use Rattle.tb_host.specs.Reported.{IsTold};
 
 use crate::checking::{put_check, reported_of_check};
 use std::alloc::Global;
@@ -12,7 +13,7 @@ use tb_answer::put_body;
 use tb_assets::trees_page;
 use tb_check::{CheckReply, FILE_LIMIT, Input, check_file, read_all};
 use tb_conllu::{Sink, Source};
-use tb_host::{Outcome, wants_words};
+use tb_host::Outcome;
 
 /// The page of the trees of these sentences.
 fn page_of(alloc: Global, conllu: &[u8]) -> Result<Vec<u8>, CheckReply>
@@ -61,28 +62,35 @@ fn draw(alloc: Global, input: &Input) -> Result<Vec<u8>, CheckReply>
 }
 
 /// Prints the page of the trees of an input, or the line of why there is none.
-fn answer_input<S: Sink>(rt: &HostRuntime, input: &Input, out: &mut S) -> Outcome
+fn answer_input<S: Sink>(alloc: Global, is_wanted: bool, input: &Input, out: &mut S) -> Outcome
     requires { IsWithin file_limit input.now }
-    ensures { IsDrawingWritten (S.held out.old) (S.held out.new) (S.IsRefusal out.new) result.status input.now }
+    ensures { IsDrawingWritten (S.held out.old) (S.held out.new) (S.IsRefusal out.new) result.status is_wanted
+        (IsTold result.reported) input.now }
 {
-    match draw(rt.alloc(), input) {
-        Ok(page) => Outcome::from(put_body(out, page.as_slice())),
+    match draw(alloc, input) {
+        Ok(page) => Outcome {
+            status: put_body(out, page.as_slice()),
+            reported: None,
+        },
         Err(reply) => Outcome {
             status: put_check(out, reply),
-            reported: reported_of_check(rt.alloc(), wants_words(rt), reply, input),
+            reported: reported_of_check(alloc, is_wanted, reply, input),
         },
     }
 }
 
-/// Draws the trees of what the source gives, up to 4,194,304 bytes.
+/// Draws the trees of what the source gives, up to 4,194,304 bytes. Why there are none is explained where words are
+/// wanted.
 pub(crate) fn draw_trees_of<R: Source, S: Sink>(
-    rt: &HostRuntime,
+    alloc: Global,
+    is_wanted: bool,
     source: &mut R,
     out: &mut S,
 ) -> Outcome
-    ensures { AreTreesDrawn (R.IsFailure source.new) (R.left source.old) (R.left source.new) (S.held out.old)
-        (S.held out.new) (S.IsRefusal out.new) result.status }
+    ensures { AreTreesDrawn (R.IsFailure source.new) (R.left source.old) (R.left source.new) (R.pieces source.old)
+        (R.pieces source.new) (S.held out.old) (S.held out.new) (S.IsRefusal out.new) result.status is_wanted
+        (IsTold result.reported) }
 {
-    let input = read_all(rt.alloc(), source, FILE_LIMIT);
-    answer_input(rt, &input, out)
+    let input = read_all(alloc, source, FILE_LIMIT);
+    answer_input(alloc, is_wanted, &input, out)
 }

@@ -1,7 +1,12 @@
 //! One request, and what is done for it.
 
-ghost use Rattle.std.specs.Prelude.{◌≡◌, Bool, IfErr, IsTrue, Err as ErrOf};
-ghost use Rattle.tb_desk.specs.Exchanges.{Adds, IsDeskEnd, IsExchange, after, attempted, led_to, looked};
+ghost use Rattle.std.specs.Prelude.{◌≡◌, ◌≢◌, ◌⊎◌, Bool, IfErr, IsTrue, Err as ErrOf, Ok as OkOf, false, true};
+ghost use Rattle.sqlite.specs.Held.{state};
+ghost use Rattle.sqlite.specs.State.{HasCleanDisk};
+ghost use Rattle.tb_store.specs.Handing.{WantsToTell};
+ghost use Rattle.tb_tables.specs.Leaving.{IsFaultless};
+ghost use Rattle.tb_desk.specs.Exchanges.{Adds, IsDeskEnd, IsExchange, IsShutFor, after, attempted, led_to, looked};
+ghost use Rattle.tb_desk.specs.Serving.{ended_by};
 
 use crate::serving::{ended_by, has_shut};
 use sqlite::Alter;
@@ -108,6 +113,26 @@ fn attempt<S: Alter, E: Exchange>(exchange: &mut E, desk: &mut Desk<S>) -> Tried
     Tried::Answered(answered)
 }
 
+/// What follows from an answer that was written whole.
+///
+/// # Errors
+///
+/// `FileShut`, where a fault has shut the desk's store.
+fn follow_answer<S: Alter>(desk: &mut Desk<S>, status: Status) -> Result<bool, Cause>
+    ensures done { (shut : Bool) × (status ≢ Status.ServiceUnavailable → shut ≡ false)
+        × (result ≡ ended_by (OkOf status) false shut) }
+    ensures shut { HasCleanDisk (state S.Store desk.new.conn) → result ≡ ErrOf Cause.FileShut
+        → IsFaultless S.Store desk.old.conn desk.new.conn → ⊥ }
+    ensures open { HasCleanDisk (state S.Store desk.new.conn) → result ≡ OkOf true
+        → status ≡ Status.ServiceUnavailable → IsTrue (state S.Store desk.new.conn).is_open
+        ⊎ WantsToTell (state S.Store desk.old.conn) (state S.Store desk.new.conn) }
+    ensures cause { IfErr result IsDeskEnd }
+    ensures files { result ≢ ErrOf Cause.FilesMoved }
+    ensures limits { desk.new.limits ≡ desk.old.limits }
+{
+    ended_by(Ok(status), false, has_shut(desk, status))
+}
+
 /// What follows from an attempt to answer a request.
 ///
 /// # Errors
@@ -118,8 +143,14 @@ fn follow<S: Alter, E: Exchange>(
     desk: &mut Desk<S>,
     tried: Tried,
 ) -> Result<bool, Cause>
-    ensures done { (moved shut : Bool) × Adds (E.done exchange.old) (E.done exchange.new) (after tried moved)
+    ensures done { (moved shut : Bool) × IsShutFor tried shut
+        × Adds (E.done exchange.old) (E.done exchange.new) (after tried moved)
         × (result ≡ led_to tried moved shut) }
+    ensures shut { HasCleanDisk (state S.Store desk.new.conn) → result ≡ ErrOf Cause.FileShut
+        → IsFaultless S.Store desk.old.conn desk.new.conn → ⊥ }
+    ensures open { HasCleanDisk (state S.Store desk.new.conn) → result ≡ OkOf true
+        → tried ≡ Tried.Answered (OkOf Status.ServiceUnavailable) → IsTrue (state S.Store desk.new.conn).is_open
+        ⊎ WantsToTell (state S.Store desk.old.conn) (state S.Store desk.new.conn) }
     ensures cause { IfErr result IsDeskEnd }
     ensures files { result ≡ ErrOf Cause.FilesMoved → E.HasFiles exchange.old }
     ensures limits { desk.new.limits ≡ desk.old.limits }
@@ -130,7 +161,7 @@ fn follow<S: Alter, E: Exchange>(
             exchange.refuse(Reply::Memory);
             Ok(true)
         }
-        Tried::Answered(Ok(status)) => ended_by(Ok(status), false, has_shut(desk, status)),
+        Tried::Answered(Ok(status)) => follow_answer(desk, status),
         Tried::Answered(Err(Broken::Read)) => {
             let has_moved = is_lost(exchange);
             ended_by(Err(Broken::Read), has_moved, false)

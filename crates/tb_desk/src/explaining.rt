@@ -2,13 +2,13 @@
 //! while the input that it is about is at hand.
 
 ghost use Rattle.std.specs.Prelude.{◌≡◌, ◌≢◌, ◌↔◌, [], IfSome, IsTrue, MatchResult, None, false, is_some, true};
-ghost use Rattle.tb_conllu.specs.declared.fault.WriteFault.{WriteFault};
 ghost use Rattle.tb_cli.specs.Lines.{said_by};
 ghost use Rattle.tb_answer.specs.declared.ending.Ending.TheVariants.{BrokenOff};
 ghost use Rattle.tb_answer.specs.declared.written.Written.TheVariants.{Found, Reply as Replied};
 ghost use Rattle.tb_http.specs.declared.replies.Reply.{Reply as AnyReply};
-ghost use Rattle.tb_desk.specs.Explaining.{IsAskedBy, IsExplained, IsExplainedAs};
-ghost use Rattle.tb_host.specs.Reported.{IsOfAnswer, IsReported};
+ghost use Rattle.tb_desk.specs.Explaining.{IsAskedBy, IsExplained, IsExplainedAs, ReportsNoWords};
+ghost use Rattle.tb_desk.specs.Told.{IsOwnCause};
+ghost use Rattle.tb_host.specs.Reported.{IsOfAnswer, IsReported, IsTold};
 ghost use Rattle.tb_host.specs.declared.causes.FileCause.{FileCause as AnyFileCause};
 ghost use Rattle.tb_desk.specs.Running.{FoundNothing, KeepsDesk, IsRunOn, taken_of};
 
@@ -17,10 +17,10 @@ use crate::running::changes_desk;
 use crate::targets::Target;
 use sqlite::Alter;
 use std::alloc::Global;
-use std::io::Write;
 use tb_answer::{Ending, Ran, Written, run_line_reported};
 use tb_cli::Line;
-use tb_host::{Cause, Diagnostic, FileCause, Outcome, wants_words};
+use tb_conllu::Sink;
+use tb_host::{Cause, Diagnostic, FileCause, Outcome};
 use tb_http::Reply;
 use tb_store::Desk;
 use tb_words::{Asked, Words, words_of_reply};
@@ -33,7 +33,8 @@ pub(crate) fn explained(
     body: &[u8],
     asked: Asked<'_>,
 ) -> Option<Diagnostic>
-    ensures { IsExplained is_wanted reply result }
+    ensures explained { IsExplained is_wanted reply result }
+    ensures unwanted { ReportsNoWords is_wanted result }
 {
     if !is_wanted {
         return None;
@@ -86,6 +87,7 @@ fn reported_of_empty<S: Alter>(
     ensures read { KeepsDesk S.Store desk.old desk.new }
     ensures words { IfSome result (λ d. IsOfAnswer d.cause) }
     ensures unwanted { is_wanted ≡ false → (result ≡ None) × (desk.new ≡ desk.old) }
+    ensures no_words { ReportsNoWords is_wanted result }
 {
     if is_wanted {
         let words = words_of_empty(rt, desk, line)?;
@@ -98,6 +100,7 @@ fn reported_of_empty<S: Alter>(
 fn cause_at_file(rt: &HostRuntime, failed: FileCause, line: &Line, ran: Ran) -> Option<Diagnostic>
     ensures other { ran.written ≢ Replied Reply.Device → result ≡ None }
     ensures file { IfSome result (λ d. (c : AnyFileCause) × (d.cause ≡ Cause.File c)) }
+    ensures own { IfSome result (λ d. IsOwnCause d.cause) }
 {
     if !matches!(ran.written, Written::Reply(Reply::Device)) {
         return None;
@@ -119,6 +122,14 @@ fn is_empty(ran: Ran) -> bool
         )
 }
 
+/// Whether words are said of an answer that is no reply: it finds nothing, and they are wanted.
+fn wants_words_of_empty(is_wanted: bool, ran: Ran) -> bool
+    ensures unwanted { is_wanted ≡ false → result ≡ false }
+    ensures empty { IsTrue result → FoundNothing ran }
+{
+    is_wanted && is_empty(ran)
+}
+
 /// What there is to say of an answer. Words for it are said where they are wanted.
 fn reported_of<S: Alter>(
     rt: &HostRuntime,
@@ -131,12 +142,13 @@ fn reported_of<S: Alter>(
     ensures read { KeepsDesk S.Store desk.old desk.new }
     ensures broken_off { ran.written ≡ Found BrokenOff → IsReported result Cause.BrokenOff }
     ensures explained { IsExplainedAs is_wanted ran.written result }
+    ensures unwanted { ReportsNoWords is_wanted result }
 {
     match ran.written {
         Written::Reply(reply) => explained(rt.alloc(), is_wanted, reply, body, asked_of(line)),
         Written::Found(Ending::BrokenOff) => Some(Diagnostic::from(Cause::BrokenOff)),
         Written::Text(_) | Written::Table(_) | Written::Found(_) | Written::Usage => {
-            reported_of_empty(rt, is_wanted && is_empty(ran), desk, line)
+            reported_of_empty(rt, wants_words_of_empty(is_wanted, ran), desk, line)
         }
     }
 }
@@ -159,7 +171,8 @@ fn cause_of_run(
     body: &Result<Vec<u8>, Reply>,
     ran: Ran,
 ) -> Option<Diagnostic>
-    ensures { ran.written ≢ Replied Reply.Device → result ≡ None }
+    ensures other { ran.written ≢ Replied Reply.Device → result ≡ None }
+    ensures own { IfSome result (λ d. IsOwnCause d.cause) }
 {
     if body.is_ok() && changes_desk(line) {
         return cause_at_file(rt, failed, line, ran);
@@ -183,6 +196,7 @@ fn reported_of_run<S: Alter>(
     ensures explained { (r : AnyReply) → ran.written ≡ Replied r → r ≢ Reply.Device
         → IsExplained is_wanted r result }
     ensures device { ran.written ≡ Replied Reply.Device → is_wanted ≡ true → is_some result ≡ true }
+    ensures unwanted { ReportsNoWords is_wanted result }
 {
     match cause_of_run(rt, failed, line, body, ran) {
         Some(cause) => Some(cause),
@@ -190,22 +204,24 @@ fn reported_of_run<S: Alter>(
     }
 }
 
-/// Does a line on a desk if its body was read, otherwise reports why it was not. Prints the answer and explains it.
-pub(crate) fn run_reported<S: Alter, W: Write>(
+/// Does a line on a desk if its body was read, otherwise reports why it was not. Prints the answer. Explains it where
+/// words are wanted.
+pub(crate) fn run_reported<S: Alter, W: Sink>(
     rt: &HostRuntime,
+    is_wanted: bool,
     line: &Line,
     body: &Result<Vec<u8>, Reply>,
     desk: &mut Desk<S>,
     out: &mut W,
 ) -> Outcome
-    ensures { IsRunOn S.Store (W.contents out.old) (W.contents out.new) (λ (_ : WriteFault). Unit {0}) result.status
-        desk.old desk.new (said_by line.now) (taken_of (λ v. v.items) body.now) }
+    ensures { IsRunOn S.Store (W.held out.old) (W.held out.new) (W.IsRefusal out.new) result.status is_wanted
+        (IsTold result.reported) desk.old desk.new (said_by line.now) (taken_of (λ v. v.items) body.now) }
 {
     let ran = run_line_reported(rt.alloc(), line, body, desk, out);
     // The system's last error is the device's only until the next call of the system, which may set another.
     let failed = FileCause::of_device(FileCause::Failed);
     Outcome {
         status: ran.status,
-        reported: reported_of_run(rt, failed, wants_words(rt), line, body, desk, ran),
+        reported: reported_of_run(rt, failed, is_wanted, line, body, desk, ran),
     }
 }

@@ -1,14 +1,13 @@
 //! Connections whose client has its answer. Their end keeps nobody from the desk.
 
 ghost use Rattle.std.specs.Prelude.{◌≡◌, ◌↔◌, ◌⊎◌, ◌≤◌, ◌+◌, ◌-◌, ◌*◌, ◌^◌, IfErr, IfOk, IfSome, IsTrue, MatchResult};
-ghost use Rattle.std.specs.Prelude.{is_some, min, true};
+ghost use Rattle.std.specs.Prelude.{is_some, min, Some, true};
 ghost use Rattle.std.specs.Duration.{as_nanos};
 ghost use Rattle.tb_host.specs.Patience.{seconds, wait_left};
-ghost use Rattle.tb_desk.specs.Serving.{end_after};
+ghost use Rattle.tb_desk.specs.Leaving.{HasEnded};
 ghost use Rattle.tb_desk.specs.Sockets.{FailsFarewell, Makes, farewell};
 ghost use Rattle.tb_http.specs.Asks.{body_limit};
 
-use crate::callers::is_none_yet;
 use crate::counting::ReadCount;
 use crate::sockets::Sockets;
 use std::io;
@@ -71,9 +70,8 @@ impl Leaver {
         Ok(Some(leaver))
     }
 
-    /// Notes the result of one read. Returns whether the client sends nothing more, where nothing more can be read now.
-    fn note(&mut self, came: io::Result<usize>) -> Option<bool>
-        ensures end { result ≡ end_after came }
+    /// Counts the bytes of one read.
+    fn note(&mut self, came: io::Result<usize>)
         ensures left { self.new.left ≡ self.old.left }
         ensures most { MatchResult came (λ count. self.new.most ≡ self.old.most - count)
             (λ _. self.new.most ≡ self.old.most) }
@@ -81,17 +79,15 @@ impl Leaver {
         ensures stream { self.new.stream ≡ self.old.stream }
     {
         match came {
-            Ok(0) => Some(true),
-            Ok(count) => {
-                self.most = self.most.saturating_sub(count);
-                None
-            }
-            Err(error) => Some(!is_none_yet(error.kind())),
+            Ok(count) => self.most = self.most.saturating_sub(count),
+            Err(_) => {}
         }
     }
 
     /// Reads some of what the client still sends. Returns whether it sends nothing more, or more than a request has.
     fn has_ended(&mut self) -> bool
+        ensures over { IsTrue result → HasEnded self.new }
+        ensures ended { self.new.reads.end ≡ Some true → IsTrue result }
         ensures left { self.new.left ≡ self.old.left }
         ensures most { self.new.most ≤ self.old.most }
         ensures read { min (self.old.reads.count + 1) (2 ^ 64 - 1) ≤ self.new.reads.count }
@@ -100,7 +96,8 @@ impl Leaver {
         let mut rest = [0; 16_384];
         for _ in 0..READS {
             let came = self.reads.read_after(&self.stream, &mut rest, 0);
-            if let Some(has_ended) = self.note(came) {
+            self.note(came);
+            if let Some(has_ended) = self.reads.end() {
                 return has_ended;
             }
         }
@@ -111,6 +108,8 @@ impl Leaver {
     pub(crate) fn has_gone(&mut self, passed: Duration) -> bool
         ensures left { as_nanos self.new.left ≡ wait_left (as_nanos self.old.left) (as_nanos passed) }
         ensures late { as_nanos self.new.left ≡ 0 → IsTrue result }
+        ensures over { IsTrue result → (as_nanos self.new.left ≡ 0) ⊎ HasEnded self.new }
+        ensures ended { self.new.reads.end ≡ Some true → IsTrue result }
         ensures read { min (self.old.reads.count + 1) (2 ^ 64 - 1) ≤ self.new.reads.count }
         ensures stream { self.new.stream ≡ self.old.stream }
     {

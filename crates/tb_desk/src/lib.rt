@@ -37,6 +37,7 @@ mod waiting;
 mod words;
 
 pub use called::run_called;
+pub use keeping::Keeper;
 pub use programs::{Program, given_words};
 pub use tb_answer::{
     Broken, answer, answer_all, read_body, requests_in_memory_lead_on, requests_lead_on, run_line,

@@ -1,13 +1,14 @@
 //! Why a query finds nothing, where that can be seen. Nothing is released, its signs are meant literally, or it asks
 //! for a form that only ranges have.
 
-ghost use Rattle.std.specs.Prelude.{◌≡◌, ◌≢◌, ◌↔◌, ◌==◌, IsTrue, MatchResult, None, is_some, not};
+ghost use Rattle.std.specs.Prelude.{◌≡◌, ◌≢◌, ◌↔◌, ◌==◌, IfSome, IsTrue, MatchResult, None, is_some, not};
 ghost use Rattle.tb_core.specs.Machine.{one};
 ghost use Rattle.tb_core.specs.Totals.{at_state, total};
 ghost use Rattle.tb_core.specs.declared.kinds.State.TheVariants.{Released};
 ghost use Rattle.tb_store.specs.Calls.{Does, Gives};
 ghost use Rattle.tb_store.specs.Represents.{Represents};
 ghost use Rattle.tb_desk.specs.Running.{KeepsDesk};
+ghost use Rattle.tb_words.specs.Explained.{BeginWith, hits_place};
 
 use crate::ranges::Ranges;
 use sqlite::Alter;
@@ -23,7 +24,8 @@ use tb_words::{
 
 /// The words for a query that has so many hits where its signs are taken literally. Of none nothing is said.
 fn words_where_hits(alloc: Global, query: &str, hits: u64) -> Option<Words>
-    ensures { is_some result ≡ not (hits == 0) }
+    ensures found { is_some result ≡ not (hits == 0) }
+    ensures place { IfSome result (λ words. BeginWith words (hits_place query.now hits)) }
 {
     if hits == 0 {
         return None;

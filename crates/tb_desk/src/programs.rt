@@ -9,6 +9,7 @@ ghost use Rattle.tb_host.specs.declared.diagnostics.Diagnostic.{Diagnostic as Re
 ghost use Rattle.tb_desk.specs.Reported.{IsUnbegun, also_reported};
 ghost use Rattle.tb_host.specs.Reported.{IsOfAnswer};
 
+use crate::keeping::Keeper;
 use std::alloc::AllocError;
 use std::env;
 use std::io::{self, BufWriter, ErrorKind, Write};
@@ -36,16 +37,18 @@ pub trait Program {
     fn name(&self) -> &'static str
         ensures { result.now ≡ program_name };
 
-    /// Does what the words ask, the program's name first. Returns the exit status, and what to say beside it.
-    fn run<R: Source, W: Write>(
+    /// Does what the words ask, the program's name first. Returns the exit status, and what to say beside it. An answer
+    /// is explained where words are wanted.
+    fn run<R: Source, W: Keeper>(
         &self,
         rt: &HostRuntime,
+        is_wanted: bool,
         words: &[String],
         reader: &mut R,
         out: &mut W,
     ) -> Outcome
-        ensures { AnswersTo _ _ R.IsFailure R.left reader.old reader.new (W.contents out.old) (W.contents out.new)
-            result.status (IsTold result.reported) (map string_bytes words.now) };
+        ensures { AnswersTo _ _ _ R.IsFailure R.left R.pieces reader.old reader.new (W.held out.old) (W.held out.new)
+            (W.IsRefusal out.new) result.status is_wanted (IsTold result.reported) (map string_bytes words.now) };
 }
 
 /// What is known at the end of a run: its exit status, the cause that the program returns, and the faults of its
@@ -129,37 +132,51 @@ pub fn given_words(rt: &HostRuntime) -> io::Result<Vec<String>> {
     Ok(env::args(rt)?.collect(rt.alloc())?)
 }
 
-/// The exit status of a run that ended with this status, once its output was flushed. An output that failed is lost.
-fn status_after(flushed: io::Result<()>, status: u8) -> u8
-    ensures { MatchResult flushed (λ _. result ≡ status) (λ _. result ≡ 3) }
+/// The exit status of a run that ended with this status, once its output was handed on. An output that failed is lost.
+fn status_after<E: Drop>(handed: Result<(), E>, status: u8) -> u8
+    ensures { MatchResult handed (λ _. result ≡ status) (λ _. result ≡ 3) }
 {
-    match flushed {
+    match handed {
         Ok(()) => status,
         Err(_) => 3,
     }
 }
 
-/// Answers words over standard input. The exit status is that after the output was flushed.
-fn answer_words<P: Program, W: Write>(
+/// Answers words over an input. The exit status is that after the output was handed on.
+fn answer_words<P: Program, R: Source, W: Keeper>(
     rt: &HostRuntime,
     program: &P,
+    is_wanted: bool,
     words: &[String],
-    input: &mut Typed<'_>,
+    input: &mut R,
     out: &mut W,
 ) -> Outcome
-    ensures ended { IsEndOf P.AnswersTo (map string_bytes words.now) input.old input.new (W.contents out.old)
-        (W.contents out.new) result.status result.reported }
-    ensures somewhere { IsEnd P.AnswersTo (map string_bytes words.now) result.status result.reported }
+    ensures { IsEndOf R.IsFailure R.left R.pieces input.old input.new W.held W.IsRefusal out.old out.new P.AnswersTo
+        (map string_bytes words.now) is_wanted result.status result.reported }
 {
-    let Outcome { status, reported } = program.run(rt, words, input, out);
+    let Outcome { status, reported } = program.run(rt, is_wanted, words, input, out);
     Outcome {
-        status: status_after(out.flush(), status),
+        status: status_after(out.hand_on(), status),
         reported,
     }
 }
 
-/// Answers words on standard input and output, and returns the exit status. Where an explanation is wanted on standard
-/// error, it prints the reason there. A failure to print it is ignored.
+/// Answers words over standard input and an output of the system's.
+fn answer_typed<P: Program, W: Write>(
+    rt: &HostRuntime,
+    program: &P,
+    is_wanted: bool,
+    words: &[String],
+    input: &mut Typed<'_>,
+    out: &mut W,
+) -> Outcome
+    ensures { IsEnd P.AnswersTo (map string_bytes words.now) result.status result.reported }
+{
+    answer_words(rt, program, is_wanted, words, input, out)
+}
+
+/// Answers words on standard input and output, and returns the exit status. Where words are wanted on standard error, it
+/// prints the reason there. A failure to print it is ignored.
 fn run<P: Program>(
     rt: &HostRuntime,
     program: &P,
@@ -174,8 +191,11 @@ fn run<P: Program>(
     };
     let mut out = Heard::new(buffer);
     let mut input = Typed::new(rt, program.name());
-    let Outcome { status, reported } = answer_words(rt, program, words, &mut input, &mut out);
-    if wants_words(rt) {
+    let is_wanted = wants_words(rt);
+    let Outcome { status, reported } = answer_typed(
+        rt, program, is_wanted, words, &mut input, &mut out,
+    );
+    if is_wanted {
         let ended = Ended {
             program: program.name(),
             status,

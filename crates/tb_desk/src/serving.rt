@@ -1,21 +1,22 @@
 //! Serves the desk over HTTP on loopback: one connection after another, with one request each.
 
-ghost use Rattle.std.specs.Prelude.{◌≡◌, ◌≢◌, ◌↔◌, ◌⊎◌, IfErr, IfOk, IfSome, IsTrue};
-ghost use Rattle.std.specs.Prelude.{None, Err as ErrOf, Ok as OkOf, IsSomeAnd, OnErr, OnOk, false, string_bytes};
+ghost use Rattle.std.specs.Prelude.{◌≡◌, ◌≢◌, ◌↔◌, ◌⊎◌, [], IfErr, IfOk, IfSome, IsTrue};
+ghost use Rattle.std.specs.Prelude.{None, Err as ErrOf, Ok as OkOf, IsSomeAnd, OnErr, OnOk, false, string_bytes, true};
 ghost use Rattle.std.specs.Io.KnownBytes.{Appends};
 ghost use Rattle.std.specs.Net.Addr.{ipv4_octets};
 ghost use Rattle.sqlite.specs.Held.{state};
 ghost use Rattle.sqlite.specs.State.{HasCleanDisk};
 ghost use Rattle.tb_conllu.specs.Sunk.{AppendsPart};
-ghost use Rattle.tb_conllu.specs.declared.fault.WriteFault.{WriteFault};
 ghost use Rattle.tb_desk.specs.Callers.{said_by};
 ghost use Rattle.tb_desk.specs.Replies.{IsReplyWritten};
-ghost use Rattle.tb_answer.specs.Served.{Serves};
+ghost use Rattle.tb_answer.specs.Served.{IsSafeOf, Serves};
 ghost use Rattle.tb_host.specs.Reported.{IsReported, IsTold};
 ghost use Rattle.tb_desk.specs.Served.{IsChosen, IsEnded, IsPortRefused, IsServed, IsServedAt, IsServedInFile};
 ghost use Rattle.tb_desk.specs.Served.{IsServedWith, IsServerEnd, listening};
-ghost use Rattle.tb_desk.specs.Serving.{ended_by, loopback, page_at, page_line, port_place};
-ghost use Rattle.tb_page.specs.Answered.{AnswersVisit};
+ghost use Rattle.tb_desk.specs.Serving.{ReadsOne, ended_by, loopback, page_at, page_line, port_place};
+ghost use Rattle.tb_http.specs.Asks.{body_limit};
+ghost use Rattle.tb_http.specs.Faults.{AwaitsMore, TakenAfter};
+ghost use Rattle.tb_page.specs.Answered.{AnswersVisit, ReadsFor};
 ghost use Rattle.tb_page.specs.Visits.{VisitText, Visits};
 ghost use Rattle.tb_store.specs.Handing.{WantsToTell};
 ghost use Rattle.tb_tables.specs.Leaving.{IsFaultless};
@@ -35,7 +36,7 @@ use std::alloc::Global;
 use std::io::{self, BufWriter, ErrorKind, Write};
 use std::net::{Ipv4Addr, TcpListener};
 use tb_answer::{Broken, answer, put_reply, respond_reply};
-use tb_conllu::{Sink, Source, WriteFault};
+use tb_conllu::{Sink, Source};
 use tb_core::Fault;
 use tb_host::{Answer, Cause, Diagnostic, Outcome, Place, PortCause, has_changed, wants_words};
 use tb_http::{Reply, Routes, Status, push_number};
@@ -86,6 +87,14 @@ fn answer_at<S: Alter, R: Source, W: Sink>(
     ensures page { IfSome page (λ port. (v : VisitText) × Visits port (said_by caller.now) v
         × AnswersVisit S.Store desk.old desk.new (W.held out.old) (W.held out.new) (W.IsRefusal out.new) result
         (said_by caller.now) (R.left reader.old) v) }
+    ensures crash { page ≡ None → IsSafeOf S.Store (R.left reader.old) desk.old desk.new }
+    ensures asked { page ≡ None → ReadsOne (R.pieces reader.old) (R.pieces reader.new) (R.left reader.old)
+        (R.left reader.new) result }
+    ensures reads { IfSome page (λ port. (v : VisitText) × Visits port (said_by caller.now) v
+        × ReadsFor reader.old reader.new v (ReadsOne (R.pieces reader.old) (R.pieces reader.new)
+        (R.left reader.old) (R.left reader.new) result)) }
+    ensures cause { result ≡ ErrOf Broken.Read → ((why : R.Failure) × R.IsFailure reader.new why)
+        × TakenAfter [] (R.left reader.old) (R.left reader.new) (AwaitsMore body_limit) }
     ensures limits { desk.new.limits ≡ desk.old.limits }
 {
     match page {
@@ -101,7 +110,9 @@ pub(crate) fn ended_by(
     has_moved: bool,
     is_shut: bool,
 ) -> Result<bool, Cause>
-    ensures { result ≡ ended_by answered has_moved is_shut }
+    ensures value { result ≡ ended_by answered has_moved is_shut }
+    ensures shut { result ≡ ErrOf Cause.FileShut → is_shut ≡ true }
+    ensures goes_on { result ≡ OkOf true → is_shut ≡ false }
 {
     match answered {
         Ok(_) if is_shut => Err(Cause::FileShut),
@@ -214,18 +225,20 @@ fn listening(port: u16) -> ArrayString<32>
 }
 
 /// Prints the port at once, for programs that wait to connect to it.
-fn announce<W: Keeper>(port: u16, out: &mut W) -> Result<(), WriteFault>
+fn announce<W: Keeper>(port: u16, out: &mut W) -> Result<(), W::Refusal>
     ensures told { OnOk result (Appends (W.held out.old) (W.held out.new) (listening port)) }
     ensures part { OnErr result (AppendsPart (W.held out.old) (W.held out.new) (listening port)) }
-    ensures at_once { OnOk result (W.HasHandedOn out.new (OkOf tt)) }
+    ensures at_once { OnOk result (W.HasHandedOn out.new) }
+    ensures refused { IfErr result (W.IsRefusal out.new) }
 {
     let line = listening(port);
-    let Ok(()) = out.put(line.as_str().as_bytes()) else {
-        return Err(WriteFault);
-    };
+    match out.put(line.as_str().as_bytes()) {
+        Ok(()) => {}
+        Err(refusal) => return Err(refusal),
+    }
     match out.hand_on() {
         Ok(()) => Ok(()),
-        Err(_) => Err(WriteFault),
+        Err(refusal) => Err(refusal),
     }
 }
 
@@ -320,6 +333,8 @@ impl Clients for Server<'_> {
 
     ghost HasFiles = { λ self. self.place ≢ None };
 
+    ghost HasFailed = { λ _. Unit {0} };
+
     fn next(&mut self) -> io::Result<Option<Next>> {
         self.waiting
             .next(&mut self.sockets, &self.routes, &self.listener)
@@ -408,8 +423,8 @@ fn serve_heard<S: Alter, W: Sink>(
 }
 
 /// Prints the port of a server, and serves its connections.
-fn serve_at<S: Alter, W: Write>(server: Server<'_>, desk: &mut Desk<S>, out: &mut W) -> Outcome
-    ensures ended { IsServedAt (W.contents out.old) (W.contents out.new) (λ (_ : WriteFault). Unit {0}) result.status
+fn serve_at<S: Alter, W: Keeper>(server: Server<'_>, desk: &mut Desk<S>, out: &mut W) -> Outcome
+    ensures ended { IsServedAt (W.held out.old) (W.held out.new) (W.IsRefusal out.new) result.status
         (IsTold result.reported) server.entry.port server.entry.service.requests }
     ensures in_memory { server.entry.place ≡ None → ¬ IsReported result.reported Cause.FilesMoved }
     ensures limits { desk.new.limits ≡ desk.old.limits }
@@ -421,7 +436,7 @@ fn serve_at<S: Alter, W: Write>(server: Server<'_>, desk: &mut Desk<S>, out: &mu
 }
 
 /// Serves so many connections on a port of loopback, with what was made for that.
-fn serve_with<S: Alter, W: Write>(
+fn serve_with<S: Alter, W: Keeper>(
     rt: &HostRuntime,
     routes: Routes,
     waiting: Waiting,
@@ -430,7 +445,7 @@ fn serve_with<S: Alter, W: Write>(
     service: Service,
     out: &mut W,
 ) -> Outcome
-    ensures ended { IsServedWith (W.contents out.old) (W.contents out.new) (λ (_ : WriteFault). Unit {0}) result.status
+    ensures ended { IsServedWith (W.held out.old) (W.held out.new) (W.IsRefusal out.new) result.status
         (IsTold result.reported) service }
     ensures in_memory { place.entry ≡ None → ¬ IsReported result.reported Cause.FilesMoved }
     ensures limits { desk.new.limits ≡ desk.old.limits }
@@ -457,14 +472,14 @@ fn serve_with<S: Alter, W: Write>(
 /// desk, if it is wanted.
 ///
 /// It ends early where the desk's files are no longer in their place, or where a fault has shut the store.
-pub(crate) fn serve<S: Alter, W: Write>(
+pub(crate) fn serve<S: Alter, W: Keeper>(
     rt: &HostRuntime,
     desk: &mut Desk<S>,
     place: Option<&Place>,
     service: Service,
     out: &mut W,
 ) -> Outcome
-    ensures ended { IsServed (W.contents out.old) (W.contents out.new) (λ (_ : WriteFault). Unit {0}) result.status
+    ensures ended { IsServed (W.held out.old) (W.held out.new) (W.IsRefusal out.new) result.status
         (IsTold result.reported) service }
     ensures in_memory { place.entry ≡ None → ¬ IsReported result.reported Cause.FilesMoved }
     ensures limits { desk.new.limits ≡ desk.old.limits }
@@ -479,14 +494,14 @@ pub(crate) fn serve<S: Alter, W: Write>(
 }
 
 /// Serves the desk in the file at this path, while its files are in their place.
-pub(crate) fn serve_in_file<S: Alter, W: Write>(
+pub(crate) fn serve_in_file<S: Alter, W: Keeper>(
     rt: &HostRuntime,
     path: &str,
     desk: &mut Desk<S>,
     service: Service,
     out: &mut W,
 ) -> Outcome
-    ensures { IsServedInFile (W.contents out.old) (W.contents out.new) (λ (_ : WriteFault). Unit {0}) result.status
+    ensures { IsServedInFile (W.held out.old) (W.held out.new) (W.IsRefusal out.new) result.status
         (IsTold result.reported) service }
 {
     match Place::new(rt, path) {

@@ -10,6 +10,7 @@ ghost use Rattle.tb_desk.specs.Serving.{IsWantOfRoom, is_no_connection, most_wai
 ghost use Rattle.std.specs.List.{AllWithin, HoldsAt};
 ghost use Rattle.tb_desk.specs.Callers.{IsHeard};
 ghost use Rattle.tb_desk.specs.Sockets.{Call, EndsBy, FailsBy, FailsToAsk, HasAsked, IsFailedWelcome, Makes};
+ghost use Rattle.tb_desk.specs.Sockets.{PausesInVain};
 ghost use Rattle.tb_desk.specs.Sockets.{clock_read, first_call, pause_if, stream_set, welcome};
 ghost use Rattle.tb_desk.specs.Waiting.{AgeTo, Ages, HasTime, IsClockRead, IsFirstToGo, IsLate, IsLetGo, IsNext};
 ghost use Rattle.tb_desk.specs.Waiting.{IsParted, KeepsRoom, LetsOneGo, NoLongerWaits, StayInTime, Waits};
@@ -294,6 +295,7 @@ impl Waiting {
         ensures full { most_waiting ≤ vec_len self.old.callers
             → (result ≡ Ok false) × (self.new.callers ≡ self.old.callers) × (sockets.new ≡ sockets.old) }
         ensures most { vec_len self.new.callers ≤ max (vec_len self.old.callers) most_waiting }
+        ensures vain { result ≡ Ok false → vec_len self.new.callers ≤ vec_len self.old.callers }
         ensures asked { IfOk result (λ _. vec_len self.old.callers < most_waiting
             → min (self.old.accepts.count + 1) (2 ^ 64 - 1) ≤ self.new.accepts.count) }
         ensures counted { min self.old.accepts.count (2 ^ 64 - 1) ≤ self.new.accepts.count }
@@ -415,6 +417,7 @@ impl Waiting {
         ensures none { IfOk result (λ seen. seen ≡ None
             → AllWithin Waits self.new.callers.items 0 (vec_len self.new.callers)) }
         ensures room { IfOk result (λ _. KeepsRoom self.old.callers.items self.new.callers.items) }
+        ensures count { IfOk result (λ _. vec_len self.new.callers ≡ vec_len self.old.callers) }
         ensures looks { IfOk result (λ _. self.new.looks ≡ min (self.old.looks + 1) (2 ^ 64 - 1)) }
         ensures unasked { self.new.accepts ≡ self.old.accepts }
         ensures called { IfOk result (λ _.
@@ -529,6 +532,7 @@ impl Waiting {
         ensures asked { IfOk result (λ next. IfSome next (λ _. vec_len self.old.callers < most_waiting
             → min (self.old.accepts.count + 1) (2 ^ 64 - 1) ≤ self.new.accepts.count)) }
         ensures called { IfOk result (λ next. IfSome next (IsLetGo (S.calls sockets.old) (S.calls sockets.new))) }
+        ensures pauses { PausesInVain (S.calls sockets.old) (S.calls sockets.new) }
         ensures failed { IfErr result (FailsBy (S.calls sockets.old) (S.calls sockets.new)) }
     {
         for _ in 0..u64::MAX {

@@ -1,6 +1,6 @@
 //! Does what the words of a command line ask.
 
-ghost use Rattle.std.specs.Prelude.{◌≡◌, map, string_bytes, codes, IfSome, None, Some};
+ghost use Rattle.std.specs.Prelude.{◌≡◌, map, string_bytes, codes, IfSome, None, Some, false};
 ghost use Rattle.clap.specs.Values.{kind_of};
 ghost use Rattle.tb_answer.specs.Output.{IsWritten};
 ghost use Rattle.tb_desk.specs.Programs.{DoesWords};
@@ -10,10 +10,10 @@ ghost use Rattle.tb_desk.specs.Replies.{IsClapWritten, IsExitOf, IsFaultWritten,
 ghost use Rattle.tb_desk.specs.Served.{untold};
 
 use crate::checking::check_reported;
+use crate::keeping::Keeper;
 use crate::memory::put_memory;
 use crate::programs::Program;
 use crate::running::run;
-use std::io::Write;
 use tb_answer::put_reply;
 use tb_check::is_check;
 use tb_cli::{Line, LineFault};
@@ -96,38 +96,40 @@ fn put_fault<W: Sink>(rt: &HostRuntime, words: &[String], fault: LineFault, out:
     }
 }
 
-/// Does what the words ask, the program's name first. Returns the exit status, and what to say beside it.
+/// Does what the words ask, the program's name first. Returns the exit status, and what to say beside it. An answer is
+/// explained where words are wanted.
 ///
 /// `check` checks what the reader gives. Other commands work on a desk in a file, or in memory for this run.
-pub fn run_words_reported<R: Source, W: Write>(
+pub fn run_words_reported<R: Source, W: Keeper>(
     rt: &HostRuntime,
+    is_wanted: bool,
     words: &[String],
     reader: &mut R,
     out: &mut W,
 ) -> Outcome
-    ensures { DoesWords _ _ R.IsFailure R.left reader.old reader.new (W.contents out.old) (W.contents out.new)
-        result.status (IsTold result.reported) (map string_bytes words.now) }
+    ensures { DoesWords _ _ _ R.IsFailure R.left R.pieces reader.old reader.new (W.held out.old) (W.held out.new)
+        (W.IsRefusal out.new) result.status is_wanted (IsTold result.reported) (map string_bytes words.now) }
 {
     if is_check(words) {
-        return check_reported(rt, reader, out);
+        return check_reported(rt.alloc(), is_wanted, reader, out);
     }
     match Line::read(rt.alloc(), words) {
-        Ok(line) => run(rt, &line, reader, out),
+        Ok(line) => run(rt, is_wanted, &line, reader, out),
         Err(fault) => put_fault(rt, words, fault, out),
     }
 }
 
-/// Does what the words ask, as [`run_words_reported`] does, and returns the exit status.
-pub fn run_words<R: Source, W: Write>(
+/// Does what the words ask, as [`run_words_reported`] does, and returns the exit status. The answer is not explained.
+pub fn run_words<R: Source, W: Keeper>(
     rt: &HostRuntime,
     words: &[String],
     reader: &mut R,
     out: &mut W,
 ) -> u8
-    ensures { DoesWords _ _ R.IsFailure R.left reader.old reader.new (W.contents out.old) (W.contents out.new) result
-        untold (map string_bytes words.now) }
+    ensures { DoesWords _ _ _ R.IsFailure R.left R.pieces reader.old reader.new (W.held out.old) (W.held out.new)
+        (W.IsRefusal out.new) result false untold (map string_bytes words.now) }
 {
-    run_words_reported(rt, words, reader, out).status
+    run_words_reported(rt, false, words, reader, out).status
 }
 
 /// The program `treedesk`: it does what [`run_words_reported`] does.
@@ -146,13 +148,14 @@ impl Program for Treedesk {
         TREEDESK
     }
 
-    fn run<R: Source, W: Write>(
+    fn run<R: Source, W: Keeper>(
         &self,
         rt: &HostRuntime,
+        is_wanted: bool,
         words: &[String],
         reader: &mut R,
         out: &mut W,
     ) -> Outcome {
-        run_words_reported(rt, words, reader, out)
+        run_words_reported(rt, is_wanted, words, reader, out)
     }
 }

@@ -1,4 +1,4 @@
-use Rattle.std.proofs.Common.{◌≡◌, ◌≢◌, ◌∙◌, ◌&&◌, Bool, Some, None, is_some, true, true≢false, sym, ap, subst}
+use Rattle.std.proofs.Common.{◌≡◌, ◌≢◌, ◌∙◌, ◌&&◌, Some, None, is_some, true, true≢false, sym, ap, subst}
 use Rattle.tb_answer.specs.declared.written.Written.{Written}
 use Rattle.tb_answer.specs.declared.written.Written.TheVariants as written
 use Rattle.tb_http.specs.declared.replies.Reply.{Reply}
@@ -22,7 +22,7 @@ none_of_some : {X P : Type 0} (x : X) → Some x ≡ None → P
 none_of_some x is = absurd (true≢false (ap is_some is))
 
 pub returns-in-Some-clause-explained : goal.returns-in-Some-clause-explained
-returns-in-Some-clause-explained g c r is other = none_of_some c.in-Some.cause (c.in-Some.ensures (λ device. other (same_reply r Device (sym is ∙ device))))
+returns-in-Some-clause-explained g c r is other = none_of_some c.in-Some.cause (c.in-Some.ensures.other (λ device. other (same_reply r Device (sym is ∙ device))))
 
 pub returns-in-None-clause-explained : goal.returns-in-None-clause-explained
 returns-in-None-clause-explained g c r is other = subst (λ w. IsExplainedAs c.args.is_wanted w c.reported_of.result) is c.reported_of.ensures.explained

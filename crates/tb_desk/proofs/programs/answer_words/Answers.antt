@@ -1,24 +1,16 @@
-use Rattle.std.proofs.Common.{◌⊎◌, inl, inr, Result, Ok, Err, MatchResult}
+use Rattle.std.proofs.Common.{◌≡◌, ◌⊎◌, inl, inr, ℕ, Result, Ok, Err, IfErr, MatchResult}
 use Rattle.tb_desk.proofs.programs.answer_words.Goals as goal
 
-either : {X E P Q : Type 0} → (r : Result X E) → MatchResult r (λ _. P) (λ _. Q) → P ⊎ Q
-either (Ok x) p = inl p
-either (Err e) q = inr q
+either : {X E : Type 0} (F : E → Type 0) (r : Result X E) (status answered : ℕ) → MatchResult r (λ _. status ≡ answered) (λ _. status ≡ 3) → IfErr r F
+    → (status ≡ answered) ⊎ (((e : E) × F e) × (status ≡ 3))
+either F (Ok x) status answered p refused = inl p
+either F (Err e) status answered p refused = inr ((e, refused), p)
 
-pub returns-clause-ended : goal.returns-clause-ended
-returns-clause-ended g c = record {
-  written = g.W.Write.contents c.run-status.new.out;
+pub returns : goal.returns
+returns g c = record {
+  written = c.run-status.new.out;
   answered = c.run-status.result.status;
   done = c.run-status.ensures;
-  flushed = c.flush.ensures.bytes;
-  ends = either c.flush.result c.status_after.ensures;
-}
-
-pub returns-clause-somewhere : goal.returns-clause-somewhere
-returns-clause-somewhere g c = record {
-  before = c.args.input.now;
-  after = c.run-status.new.reader;
-  held = g.W.Write.contents c.args.out.now;
-  holds = g.W.Write.contents c.flush.new.self;
-  ended = returns-clause-ended g c;
+  flushed = c.hand_on.ensures.kept;
+  ends = either (g.W.Sink.IsRefusal c.hand_on.new.self) c.hand_on.result c.status_after.result c.run-status.result.status c.status_after.ensures c.hand_on.ensures.refused;
 }

@@ -4,7 +4,7 @@ use Rattle.tb_http.specs.declared.replies.Reply.{Reply}
 use Rattle.tb_cli.specs.Lines.{said_by}
 use Rattle.tb_answer.specs.Taken.{IsTaken}
 use Rattle.tb_desk.specs.Running.{taken_of}
-use Rattle.tb_desk.proofs.Ran.{input_left, taken_so}
+use Rattle.tb_desk.proofs.Ran.{body_asked, input_left, taken_so}
 use Rattle.tb_desk.proofs.running.run_on_file.Goals as goal
 
 pub returns-in-Err-clause-ended : goal.returns-in-Err-clause-ended
@@ -36,3 +36,11 @@ returns-in-Ok-clause-ended g c =
 pub returns-in-Ok-clause-input : goal.returns-in-Ok-clause-input
 returns-in-Ok-clause-input g c =
     input_left g.R.Source.IsFailure g.R.Source.left file_limit (said_by c.args.line.now) c.args.reader.now c.read_body-body.new.reader (λ v. v.items) c.read_body-body.result c.read_body-body.ensures.taken
+
+pub returns-clause-asked : goal.returns-clause-asked
+returns-clause-asked g c =
+    body_asked g.R.Source.IsFailure g.R.Source.left g.R.Source.pieces (said_by c.args.line.now) c.args.reader.now c.read_body-body.new.reader (λ v. v.items) c.read_body-body.result c.read_body-body.ensures.taken c.read_body-body.ensures.asked
+
+pub returns-in-Ok-clause-asked : goal.returns-in-Ok-clause-asked
+returns-in-Ok-clause-asked g c =
+    body_asked g.R.Source.IsFailure g.R.Source.left g.R.Source.pieces (said_by c.args.line.now) c.args.reader.now c.read_body-body.new.reader (λ v. v.items) c.read_body-body.result c.read_body-body.ensures.taken c.read_body-body.ensures.asked

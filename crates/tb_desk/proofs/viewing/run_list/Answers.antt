@@ -6,5 +6,6 @@ returns-in-Ok g c = inr record {
   opened = c.in-Ok.opened;
   ended = record { desk = c.show-outcome.new.desk };
   is = c.in-Ok.ensures.desk;
-  shown = c.show-outcome.ensures;
+  shown = c.show-outcome.ensures.shown;
+  read_only = c.show-outcome.ensures.read_only;
 }
