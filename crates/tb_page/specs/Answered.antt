@@ -1,5 +1,5 @@
 -- How a server with the page answers a request, and what it leaves of the desk.
-use Rattle.std.specs.Prelude.{◌≡◌, ◌≢◌, ◌⊎◌, ◌++◌, ℕ, List, codes, length, Option, Some, Result, Err}
+use Rattle.std.specs.Prelude.{◌≡◌, ◌≢◌, ◌⊎◌, ◌++◌, ℕ, List, codes, length, Option, Some, Result, Err, ⊤}
 use Rattle.sqlite.specs.Store.{Ghosts}
 use Rattle.tb_core.specs.Machine.{Machine}
 use Rattle.tb_http.specs.declared.actions.Allow.{Allow}
@@ -24,7 +24,7 @@ use Rattle.tb_page.specs.declared.paths.File.{File}
 use Rattle.tb_page.specs.Files.{file_kind, file_text}
 use Rattle.tb_page.specs.Checked.{IsCheckResponse}
 use Rattle.tb_page.specs.Heads.{page_head, page_response}
-use Rattle.tb_page.specs.Lists.{IsList, RefusesList}
+use Rattle.tb_page.specs.Lists.{IsList, LeavesForList, RefusesList}
 use Rattle.tb_page.specs.Paths.{ListText}
 use Rattle.tb_page.specs.Visits.{VisitText, no_head, foreign, file, list, check, no_text, no_method, desk}
 
@@ -91,3 +91,14 @@ ReadsFor old new (check text) as_the_desk = new ≡ old
 ReadsFor old new (no_text why) as_the_desk = new ≡ old
 ReadsFor old new (no_method allow) as_the_desk = new ≡ old
 ReadsFor old new desk as_the_desk = as_the_desk
+
+-- The desk is as it was, but where a list is read of it, or where it is the desk that answers.
+abbrev pub LeavesFor : {D : Type 0} → (old new : D) → VisitText → Type 0
+LeavesFor old new no_head = ⊤
+LeavesFor old new (foreign why) = new ≡ old
+LeavesFor old new (file f) = new ≡ old
+LeavesFor old new (list l) = LeavesForList old new l
+LeavesFor old new (check text) = new ≡ old
+LeavesFor old new (no_text why) = new ≡ old
+LeavesFor old new (no_method allow) = new ≡ old
+LeavesFor old new desk = ⊤

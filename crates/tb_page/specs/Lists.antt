@@ -1,5 +1,5 @@
 -- The lists of the page, in a state of the desk.
-use Rattle.std.specs.Prelude.{◌≡◌, ◌⊎◌, ℕ, List, ◌++◌, codes, decimal, length}
+use Rattle.std.specs.Prelude.{◌≡◌, ◌⊎◌, ℕ, List, ◌++◌, codes, decimal, length, ⊤}
 use Rattle.std.specs.Str.{IsUtf8}
 use Rattle.percent_encoding.specs.Percent.{percent_decode}
 use Rattle.tb_core.specs.declared.refusals.Refusal.{Refusal}
@@ -39,3 +39,10 @@ RefusesList s counts r = ⊥
 RefusesList s batches r = ⊥
 RefusesList s (sentences n) r = RefusesNumber s n r
 RefusesList s (sent_id id) r = LacksId s (percent_decode id) r
+
+-- The desk is as it was, where how much there is is asked: that is known without a read. Any other list is read.
+abbrev pub LeavesForList : {D : Type 0} → (old new : D) → ListText → Type 0
+LeavesForList old new counts = new ≡ old
+LeavesForList old new batches = ⊤
+LeavesForList old new (sentences n) = ⊤
+LeavesForList old new (sent_id id) = ⊤

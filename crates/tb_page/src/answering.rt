@@ -4,7 +4,8 @@ ghost use Rattle.std.specs.Prelude.{◌≡◌, ◌≢◌, ℕ, List, [], Err as 
 ghost use Rattle.tb_conllu.specs.Pieces.{AskedFor};
 ghost use Rattle.tb_http.specs.Asks.{body_limit};
 ghost use Rattle.tb_http.specs.Faults.{AwaitsMore, IsAtMostOne, TakenAfter};
-ghost use Rattle.tb_page.specs.Answered.{AnswersVisit, ReadsFor, SendsList};
+ghost use Rattle.tb_page.specs.Answered.{AnswersVisit, LeavesFor, ReadsFor, SendsList};
+ghost use Rattle.tb_page.specs.Lists.{LeavesForList};
 ghost use Rattle.tb_page.specs.Paths.{list_by};
 ghost use Rattle.tb_page.specs.Visits.{VisitText, Visits};
 
@@ -30,6 +31,7 @@ fn send_list<S: Alter, W: Sink>(
 ) -> Result<Status, Broken>
     ensures sends { SendsList S.Store desk.old desk.new (W.held out.old) (W.held out.new) (W.IsRefusal out.new) result
         (list_by list.entry) }
+    ensures kept { LeavesForList desk.old desk.new (list_by list.entry) }
     ensures reads_none { result ≢ ErrOf Broken.Read }
     ensures limits { desk.new.limits ≡ desk.old.limits }
 {
@@ -65,6 +67,7 @@ pub fn answer_with_page<S: Alter, R: Source, W: Sink>(
         ((result ≢ ErrOf Broken.Read → (taken : List ℕ)
         × AskedFor (AwaitsMore body_limit) [] (R.pieces reader.old) (R.pieces reader.new) taken)
         × TakenAfter [] (R.left reader.old) (R.left reader.new) (IsAtMostOne body_limit)) }
+    ensures kept { (v : VisitText) × Visits port came.now v × LeavesFor desk.old desk.new v }
     ensures cause { result ≡ ErrOf Broken.Read → ((why : R.Failure) × R.IsFailure reader.new why)
         × TakenAfter [] (R.left reader.old) (R.left reader.new) (AwaitsMore body_limit) }
     ensures limits { desk.new.limits ≡ desk.old.limits }

@@ -34,25 +34,17 @@ impl Kind {
     }
 }
 
-/// What a page loads, and who may show it.
-fn push_content_policy(head: &mut ArrayString<1024>)
-    requires { array_string_len head.old + 300 ≤ 1024 }
-    ensures bytes { head.new.bytes ≡ head.old.bytes ++ content_policy }
-    ensures bound { array_string_len head.new ≤ array_string_len head.old + 300 }
+/// What a page loads, who may show it, and who may read an answer.
+fn push_policies(head: &mut ArrayString<1024>)
+    requires { array_string_len head.old + 600 ≤ 1024 }
+    ensures bytes { head.new.bytes ≡ head.old.bytes ++ content_policy ++ origin_policy }
+    ensures bound { array_string_len head.new ≤ array_string_len head.old + 600 }
 {
     head.push_str(
         "Content-Security-Policy: default-src 'none'; script-src 'self'; style-src 'self'; connect-src 'self'; ",
     );
     head.push_str("img-src data:; base-uri 'none'; form-action 'none'; frame-ancestors 'none'; ");
     head.push_str("require-trusted-types-for 'script'; trusted-types 'none'\r\n");
-}
-
-/// Who may read an answer.
-fn push_origin_policy(head: &mut ArrayString<1024>)
-    requires { array_string_len head.old + 300 ≤ 1024 }
-    ensures bytes { head.new.bytes ≡ head.old.bytes ++ origin_policy }
-    ensures bound { array_string_len head.new ≤ array_string_len head.old + 300 }
-{
     head.push_str(
         "X-Content-Type-Options: nosniff\r\nReferrer-Policy: no-referrer\r\nCache-Control: no-store\r\n",
     );
@@ -95,8 +87,7 @@ pub(crate) fn page_head(
     push_number(&mut head, length);
     head.push_str("\r\nConnection: close\r\n");
     push_allowed(&mut head, allow);
-    push_content_policy(&mut head);
-    push_origin_policy(&mut head);
+    push_policies(&mut head);
     head.push_str("\r\n");
     head
 }

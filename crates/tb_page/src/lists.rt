@@ -5,7 +5,7 @@ ghost use Rattle.std.specs.Str.{IsUtf8};
 ghost use Rattle.percent_encoding.specs.Percent.{percent_decode};
 ghost use Rattle.tb_answer.specs.OnlyRead.{IsReadResult};
 ghost use Rattle.tb_answer.specs.Viewed.{IsReportedAs};
-ghost use Rattle.tb_page.specs.Lists.{IsList, IsWithId, LacksId, RefusesList, counts_csv};
+ghost use Rattle.tb_page.specs.Lists.{IsList, IsWithId, LacksId, LeavesForList, RefusesList, counts_csv};
 ghost use Rattle.tb_page.specs.Paths.{list_by};
 
 use crate::paths::PageList;
@@ -99,6 +99,7 @@ pub(crate) fn list_text<S: Alter>(
         (λ cause s. IsReportedAs cause (RefusesList s (list_by list.entry))) }
     ensures counts { list.entry ≡ PageList.Counts → (desk.new ≡ desk.old)
         × IfErr result (λ r. r ≡ Reply.Memory) }
+    ensures kept { LeavesForList desk.old desk.new (list_by list.entry) }
 {
     match list {
         PageList::Counts => copied(alloc, counts_csv(desk.row_counts()).as_str()),

@@ -56,31 +56,31 @@ pub(crate) fn is_check(path: &[u8]) -> bool
     path == b"/page/check".as_slice()
 }
 
+/// The value beside the first of these paths that a path is.
+macro_rules! by_path {
+    ($path:ident: $($text:literal => $value:expr,)+) => {{
+        $(if $path == $text.as_slice() {
+            return Some($value);
+        })+
+        None
+    }};
+}
+
 /// The file at a path.
 pub(crate) fn file_at(path: &[u8]) -> Option<File>
     ensures { result ≡ file_at path.now }
 {
-    if path == b"/".as_slice() {
-        Some(File::Index)
-    } else if path == b"/page/page.css".as_slice() {
-        Some(File::Style)
-    } else if path == b"/page/desk.js".as_slice() {
-        Some(File::Desk)
-    } else if path == b"/page/rows.js".as_slice() {
-        Some(File::Rows)
-    } else if path == b"/page/conllu.js".as_slice() {
-        Some(File::Conllu)
-    } else if path == b"/page/tree.js".as_slice() {
-        Some(File::Tree)
-    } else if path == b"/page/edit.js".as_slice() {
-        Some(File::Edit)
-    } else if path == b"/page/find.js".as_slice() {
-        Some(File::Find)
-    } else if path == b"/page/page.js".as_slice() {
-        Some(File::Page)
-    } else {
-        None
-    }
+    by_path!(path:
+        b"/" => File::Index,
+        b"/page/page.css" => File::Style,
+        b"/page/desk.js" => File::Desk,
+        b"/page/rows.js" => File::Rows,
+        b"/page/conllu.js" => File::Conllu,
+        b"/page/tree.js" => File::Tree,
+        b"/page/edit.js" => File::Edit,
+        b"/page/find.js" => File::Find,
+        b"/page/page.js" => File::Page,
+    )
 }
 
 /// The rest of a text, where it begins with `front`.

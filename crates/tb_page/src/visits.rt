@@ -133,43 +133,40 @@ fn asked_at<'b>(
     }
 }
 
-/// What is asked by the head at these spans, and by the bytes after it.
-fn visit_of<'b>(
-    port: u16,
+/// The head of a request in a buffer: where its parts and its headers are.
+#[derive(Clone, Copy)]
+struct HeadIn<'b, 'h> {
     buf: &'b [u8],
-    headers: &[HeaderSpan],
+    headers: &'h [HeaderSpan],
     spans: RequestSpans,
-    rest: &'b [u8],
-) -> Visit<'b>
-    requires inside { IsRequestWithin buf.now headers.now spans }
-    ensures { visit_by result ≡ visit_of port (span_bytes buf.now spans.method) (span_bytes buf.now spans.path)
-        (map (header_bytes buf.now) (take spans.headers headers.now)) rest.now }
-{
-    let method = spans.method.of(buf);
-    let path = spans.path.of(buf);
-    let named = &headers[..spans.headers];
-    if let Some(why) = guard(port, is_linkable(method, path), buf, named) {
-        return Visit::Foreign(why);
-    }
-    asked_at(method, path, buf, named, rest)
 }
 
-/// What is asked by bytes that begin with the head in the buffer.
-fn visit_after<'b>(
-    port: u16,
-    buf: &'b [u8],
-    headers: &[HeaderSpan],
-    spans: RequestSpans,
-    bytes: &'b [u8],
-) -> Visit<'b>
-    requires room { length buf.now ≤ 8192 }
-    requires few { length headers.now ≤ 32 }
-    requires inside { IsRequestWithin buf.now headers.now spans }
-    requires head { IsRequestOf buf.now headers.now spans }
-    requires begins { (later : List ℕ) × (bytes.now ≡ buf.now ++ later) }
+/// What is asked by a head, and by the bytes after it.
+fn visit_of<'b>(port: u16, head: HeadIn<'b, '_>, rest: &'b [u8]) -> Visit<'b>
+    requires inside { IsRequestWithin head.buf.now head.headers.now head.spans }
+    ensures { visit_by result ≡ visit_of port (span_bytes head.entry.buf.now head.entry.spans.method)
+        (span_bytes head.entry.buf.now head.entry.spans.path)
+        (map (header_bytes head.entry.buf.now) (take head.entry.spans.headers head.entry.headers.now)) rest.now }
+{
+    let method = head.spans.method.of(head.buf);
+    let path = head.spans.path.of(head.buf);
+    let named = &head.headers[..head.spans.headers];
+    if let Some(why) = guard(port, is_linkable(method, path), head.buf, named) {
+        return Visit::Foreign(why);
+    }
+    asked_at(method, path, head.buf, named, rest)
+}
+
+/// What is asked by bytes that begin with the head.
+fn visit_after<'b>(port: u16, head: HeadIn<'b, '_>, bytes: &'b [u8]) -> Visit<'b>
+    requires room { length head.buf.now ≤ 8192 }
+    requires few { length head.headers.now ≤ 32 }
+    requires inside { IsRequestWithin head.buf.now head.headers.now head.spans }
+    requires head { IsRequestOf head.buf.now head.headers.now head.spans }
+    requires begins { (later : List ℕ) × (bytes.now ≡ head.buf.now ++ later) }
     ensures { Visits port bytes.now (visit_by result) }
 {
-    visit_of(port, buf, headers, spans, &bytes[spans.len..])
+    visit_of(port, head, &bytes[head.spans.len..])
 }
 
 /// What these bytes ask of the server at this port. The head is copied into `buf`, which paths borrow from.
@@ -179,7 +176,14 @@ pub fn read_visit<'b>(port: u16, bytes: &'b [u8], buf: &'b mut [u8; HEAD_BYTES])
     let mut headers = [EMPTY_HEADER_SPAN; HEADERS];
     let mut reader = SliceSource { bytes };
     match read_head(&mut reader, buf, &mut headers) {
-        Ok(Some(head)) => visit_after(port, &buf[..head.filled], &headers, head.spans, bytes),
+        Ok(Some(read)) => {
+            let head = HeadIn {
+                buf: &buf[..read.filled],
+                headers: &headers,
+                spans: read.spans,
+            };
+            visit_after(port, head, bytes)
+        }
         _ => Visit::NoHead,
     }
 }

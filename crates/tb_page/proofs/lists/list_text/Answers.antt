@@ -1,8 +1,8 @@
-use Rattle.std.proofs.Common.{inr, subst, sym}
+use Rattle.std.proofs.Common.{inr, refl, subst, sym}
 use Rattle.tb_answer.specs.OnlyRead.{IsReadResult}
 use Rattle.tb_answer.specs.Viewed.{IsReportedAs}
 use Rattle.tb_answer.proofs.Failing.{if_err}
-use Rattle.tb_page.specs.Lists.{IsList, RefusesList}
+use Rattle.tb_page.specs.Lists.{IsList, LeavesForList, RefusesList}
 use Rattle.tb_page.specs.Paths.{list_by}
 use Rattle.tb_page.proofs.lists.list_text.Goals as goal
 
@@ -32,3 +32,19 @@ returns-in-SentId-clause-read g c =
       reported = told.reported;
       read_only = told.read_only;
     })
+
+pub returns-in-Counts-clause-kept : goal.returns-in-Counts-clause-kept
+returns-in-Counts-clause-kept g c =
+    subst (λ l. LeavesForList c.args.desk.now c.args.desk.now (list_by l)) (sym c.in-Counts.is) refl
+
+pub returns-in-Batches-clause-kept : goal.returns-in-Batches-clause-kept
+returns-in-Batches-clause-kept g c =
+    subst (λ l. LeavesForList c.args.desk.now c.view_batches.new.desk (list_by l)) (sym c.in-Batches.is) tt
+
+pub returns-in-Sentences-clause-kept : goal.returns-in-Sentences-clause-kept
+returns-in-Sentences-clause-kept g c =
+    subst (λ l. LeavesForList c.args.desk.now c.numbered_sentences.new.desk (list_by l)) (sym c.in-Sentences.is) tt
+
+pub returns-in-SentId-clause-kept : goal.returns-in-SentId-clause-kept
+returns-in-SentId-clause-kept g c =
+    subst (λ l. LeavesForList c.args.desk.now c.with_escaped_id.new.desk (list_by l)) (sym c.in-SentId.is) tt
