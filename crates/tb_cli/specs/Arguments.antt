@@ -1,7 +1,7 @@
 -- Inner: no contract beyond this crate cites a definition of this module.
 -- The arguments of the commands, and what help says of each. Each text is a constant of its argument.
 use Rattle.std.specs.Prelude.{◌≡◌, Some, codes, option_map}
-use Rattle.clap.specs.Words.{Rule, Text}
+use Rattle.clap.specs.Words.{App, Rule, Text, with_rule}
 use Rattle.clap.specs.declared.builder.arg.Arg.{Arg}
 use Rattle.tb_cli.specs.Tree.{default_rule, needed_rule, option_rule, optional_rule, word_rule}
 use Rattle.tb_cli.specs.declared.arguments.Argument.{Argument}
@@ -46,6 +46,10 @@ argument_rule argument.Port = needed_rule (codes "port")
 argument_rule argument.PortShown = needed_rule (codes "port")
 argument_rule argument.Requests = default_rule (codes "requests") (codes "1000000000")
 argument_rule argument.Most = default_rule (codes "most") (codes "100")
+
+-- a command that takes this argument too
+abbrev pub with_argument : App → Argument → App
+with_argument app which = with_rule app (argument_rule which)
 
 -- what help says of an argument
 abbrev pub argument_help : Argument → Text

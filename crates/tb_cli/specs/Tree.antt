@@ -78,9 +78,13 @@ abbrev pub serve_app : App
 serve_app = with_rule (with_rule (with_db (new_app (codes "serve"))) (needed_rule (codes "port"))) (default_rule
     (codes "requests") (codes "1000000000"))
 
+-- a program of this name, with its version
+abbrev pub program_app : Text → App
+program_app name = record { top = record (new_app name).top { has_version = true }; subs = [] }
+
 -- the program's name and version
 abbrev pub top_app : App
-top_app = record { top = record (new_app (codes "treedesk")).top { has_version = true }; subs = [] }
+top_app = program_app (codes "treedesk")
 
 -- the word of each command
 abbrev pub word_of : Verb → Text

@@ -1,10 +1,11 @@
 -- The command line of deskview: its commands, as they are declared to clap, and what words say.
-use Rattle.std.specs.Prelude.{ℕ, List, Bool, true, false, is_some, [], codes, Option, Some, None, option_and_then, bytes_eq, if◌then◌else◌}
+use Rattle.std.specs.Prelude.{ℕ, List, Bool, true, false, fold, is_some, [], ◌∷◌, codes, Option, Some, None, option_and_then}
+use Rattle.std.specs.Prelude.{bytes_eq, if◌then◌else◌}
 use Rattle.std.specs.String.{string_bytes}
 use Rattle.clap.specs.Words.{App, Row, Text, first_of, new_app, with_rule, with_subcommand}
 use Rattle.tb_http.specs.Forms.{most_of, number_of, port_of}
 use Rattle.tb_cli.specs.Lines.{batch_of, formed, with_one, with_two}
-use Rattle.tb_cli.specs.Tree.{default_rule, needed_rule, optional_rule, with_db, word_rule}
+use Rattle.tb_cli.specs.Tree.{default_rule, needed_rule, optional_rule, program_app, with_db, word_rule}
 use Rattle.tb_cli.specs.declared.lines.ViewLine.{ViewLine}
 use Rattle.tb_cli.specs.declared.lines.ViewLine.TheVariants as line
 use Rattle.tb_cli.specs.declared.lines.ViewList.{ViewList}
@@ -14,7 +15,7 @@ use Rattle.tb_cli.specs.declared.view_verbs.ViewVerb.TheVariants as verb
 
 -- the program's name and version
 abbrev pub view_top : App
-view_top = record { top = record (new_app (codes "deskview")).top { has_version = true }; subs = [] }
+view_top = program_app (codes "deskview")
 
 -- the word of each command
 abbrev pub view_word : ViewVerb → Text
@@ -38,11 +39,6 @@ revisions_app = with_rule (with_db (new_app (codes "revisions"))) (word_rule (co
 abbrev pub find_app : App
 find_app = with_rule (with_db (new_app (codes "find"))) (word_rule (codes "sent_id"))
 
--- the commands that list
-abbrev pub lists_app : App
-lists_app =
-    with_subcommand (with_subcommand (with_subcommand view_top batches_app.top) sentences_app.top) revisions_app.top
-
 -- a sentence of a desk, or a file without a desk
 abbrev pub tree_app : App
 tree_app = with_rule (with_db (new_app (codes "tree"))) (optional_rule (codes "no"))
@@ -55,11 +51,27 @@ check_app = with_rule (new_app (codes "check")) (default_rule (codes "most") (co
 abbrev pub page_app : App
 page_app = with_rule (with_db (new_app (codes "page"))) (needed_rule (codes "port"))
 
+-- each command
+abbrev pub view_app_by : ViewVerb → App
+view_app_by verb.Batches = batches_app
+view_app_by verb.Sentences = sentences_app
+view_app_by verb.Revisions = revisions_app
+view_app_by verb.Find = find_app
+view_app_by verb.Tree = tree_app
+view_app_by verb.Check = check_app
+view_app_by verb.Page = page_app
+
+-- the commands in the order of help
+unfoldable pub view_verbs : List ViewVerb
+view_verbs =
+    verb.Batches ∷ verb.Sentences ∷ verb.Revisions ∷ verb.Find ∷ verb.Tree ∷ verb.Check ∷ verb.Page ∷ []
+
+abbrev pub with_view_verb : App → ViewVerb → App
+with_view_verb a v = with_subcommand a (view_app_by v).top
+
 -- the whole command
 unfoldable pub view_app : App
-view_app =
-    with_subcommand (with_subcommand (with_subcommand (with_subcommand lists_app find_app.top) tree_app.top)
-    check_app.top) page_app.top
+view_app = fold with_view_verb view_top view_verbs
 
 -- a list, as plain data: the batches, the sentences of the batch with a name, the revisions of the sentence with a
 -- number, the sentence with a `sent_id`, or the tree of the sentence with a number

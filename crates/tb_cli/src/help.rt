@@ -39,48 +39,39 @@ Every command but check, new and migrate works on a desk in memory unless --db n
 pub(crate) const ABOUT: &str =
     "A treebank desk for CoNLL-U files: check, import, correct, release, search and count";
 
+/// The constant of a module that stands beside the command.
+macro_rules! text_by {
+    ($verb:ident, $texts:ident, $verbs:ident: $($command:ident $text:ident),+) => {
+        match $verb {
+            $($verbs::$command => $texts::$text,)+
+        }
+    };
+}
+
+pub(crate) use text_by;
+
+/// The text of a command, which is the constant of its name in this module.
+macro_rules! command_text {
+    ($verb:ident, $texts:ident) => {
+        text_by!(
+            $verb, $texts, Verb:
+            Check CHECK, New NEW, Migrate MIGRATE, Import IMPORT, Event EVENT, Correct CORRECT,
+            Pull PULL, Restore RESTORE, Show SHOW, Export EXPORT, Totals TOTALS, Moves MOVES,
+            Search SEARCH, Count COUNT, Serve SERVE
+        )
+    };
+}
+
 /// What a command does, as the list of commands shows it.
 pub fn about<'a>(verb: Verb) -> &'a str
     ensures { result.now ≡ about_text verb }
 {
-    match verb {
-        Verb::Check => abouts::CHECK,
-        Verb::New => abouts::NEW,
-        Verb::Migrate => abouts::MIGRATE,
-        Verb::Import => abouts::IMPORT,
-        Verb::Event => abouts::EVENT,
-        Verb::Correct => abouts::CORRECT,
-        Verb::Pull => abouts::PULL,
-        Verb::Restore => abouts::RESTORE,
-        Verb::Show => abouts::SHOW,
-        Verb::Export => abouts::EXPORT,
-        Verb::Totals => abouts::TOTALS,
-        Verb::Moves => abouts::MOVES,
-        Verb::Search => abouts::SEARCH,
-        Verb::Count => abouts::COUNT,
-        Verb::Serve => abouts::SERVE,
-    }
+    command_text!(verb, abouts)
 }
 
 /// The end of a command's help: what to know about it, an example, and the exit statuses.
 pub fn ending<'a>(verb: Verb) -> &'a str
     ensures { result.now ≡ ending_text verb }
 {
-    match verb {
-        Verb::Check => endings::CHECK,
-        Verb::New => endings::NEW,
-        Verb::Migrate => endings::MIGRATE,
-        Verb::Import => endings::IMPORT,
-        Verb::Event => endings::EVENT,
-        Verb::Correct => endings::CORRECT,
-        Verb::Pull => endings::PULL,
-        Verb::Restore => endings::RESTORE,
-        Verb::Show => endings::SHOW,
-        Verb::Export => endings::EXPORT,
-        Verb::Totals => endings::TOTALS,
-        Verb::Moves => endings::MOVES,
-        Verb::Search => endings::SEARCH,
-        Verb::Count => endings::COUNT,
-        Verb::Serve => endings::SERVE,
-    }
+    command_text!(verb, endings)
 }

@@ -20,73 +20,82 @@ use clap::error::ErrorKind;
 use clap::{ArgMatches, Command};
 use std::alloc::Global;
 
+/// The line of a command by a user, with these values besides. They are found before a text is copied: words that are
+/// no line want no memory.
+macro_rules! line_by_user {
+    (
+        $alloc:ident, $matches:ident, $line:ident:
+        $($value:ident = $find:ident $id:expr),+; $($text:ident)*
+    ) => {{
+        let user = given(value($matches, "user"))?;
+        $(let $value = given($find($matches, $id))?;)+
+        let db = copied($alloc, value($matches, "db"))?;
+        let user = String::from_str($alloc, user)?;
+        $(let $text = String::from_str($alloc, $text)?;)*
+        Ok(Line::$line { db, user, $($value),+ })
+    }};
+}
+
+/// The line of a command with these values. They are found before the name of a file is copied.
+macro_rules! line_with {
+    ($alloc:ident, $matches:ident, $line:ident: $($value:ident = $find:ident $id:expr),+) => {{
+        $(let $value = given($find($matches, $id))?;)+
+        let db = copied($alloc, value($matches, "db"))?;
+        Ok(Line::$line { db, $($value),+ })
+    }};
+}
+
+/// The line of a command that looks for a query, with this value besides.
+macro_rules! line_of_query {
+    ($alloc:ident, $matches:ident, $line:ident: $value:ident = $find:ident $id:expr) => {{
+        let strategy = given(strategy_in($matches, "strategy"))?;
+        let $value = given($find($matches, $id))?;
+        let query = text_of($alloc, value($matches, "query"))?;
+        let db = copied($alloc, value($matches, "db"))?;
+        Ok(Line::$line {
+            db,
+            strategy,
+            $value,
+            query,
+        })
+    }};
+}
+
 fn import(alloc: Global, matches: &ArgMatches<'_>) -> Result<Line, LineFault>
     ensures { ReadsAs (said_with verb.Import (rows_of (found_of matches.now))) said_by result }
 {
-    let user = given(value(matches, "user"))?;
-    let name = given(batch_in(matches, "name"))?;
-    let db = copied(alloc, value(matches, "db"))?;
-    let user = String::from_str(alloc, user)?;
-    let name = String::from_str(alloc, name)?;
-    Ok(Line::Import { db, user, name })
+    line_by_user!(alloc, matches, Import: name = batch_in "name"; name)
 }
 
 fn event(alloc: Global, matches: &ArgMatches<'_>) -> Result<Line, LineFault>
     ensures { ReadsAs (said_with verb.Event (rows_of (found_of matches.now))) said_by result }
 {
-    let user = given(value(matches, "user"))?;
-    let name = given(batch_in(matches, "name"))?;
-    let event = given(event_in(matches, "event"))?;
-    let db = copied(alloc, value(matches, "db"))?;
-    let user = String::from_str(alloc, user)?;
-    let name = String::from_str(alloc, name)?;
-    Ok(Line::Event {
-        db,
-        user,
-        name,
-        event,
-    })
+    line_by_user!(alloc, matches, Event: name = batch_in "name", event = event_in "event"; name)
 }
 
 fn correct(alloc: Global, matches: &ArgMatches<'_>) -> Result<Line, LineFault>
     ensures { ReadsAs (said_with verb.Correct (rows_of (found_of matches.now))) said_by result }
 {
-    let user = given(value(matches, "user"))?;
-    let no = given(number_in(matches, "no"))?;
-    let base = given(base_in(matches, "base"))?;
-    let db = copied(alloc, value(matches, "db"))?;
-    let user = String::from_str(alloc, user)?;
-    Ok(Line::Correct { db, user, no, base })
+    line_by_user!(alloc, matches, Correct: no = number_in "no", base = base_in "base";)
 }
 
 fn pull(alloc: Global, matches: &ArgMatches<'_>) -> Result<Line, LineFault>
     ensures { ReadsAs (said_with verb.Pull (rows_of (found_of matches.now))) said_by result }
 {
-    let user = given(value(matches, "user"))?;
-    let no = given(number_in(matches, "no"))?;
-    let db = copied(alloc, value(matches, "db"))?;
-    let user = String::from_str(alloc, user)?;
-    Ok(Line::Pull { db, user, no })
+    line_by_user!(alloc, matches, Pull: no = number_in "no";)
 }
 
 fn restore(alloc: Global, matches: &ArgMatches<'_>) -> Result<Line, LineFault>
     ensures { ReadsAs (said_with verb.Restore (rows_of (found_of matches.now))) said_by result }
 {
-    let user = given(value(matches, "user"))?;
-    let no = given(number_in(matches, "no"))?;
-    let db = copied(alloc, value(matches, "db"))?;
-    let user = String::from_str(alloc, user)?;
-    Ok(Line::Restore { db, user, no })
+    line_by_user!(alloc, matches, Restore: no = number_in "no";)
 }
 
 fn show(alloc: Global, matches: &ArgMatches<'_>) -> Result<Line, LineFault>
     ensures value { ReadsAs (said_with verb.Show (rows_of (found_of matches.now))) said_by result }
     ensures memory { HasNoText verb.Show (rows_of (found_of matches.now)) → result ≢ ErrOf LineFault.Memory }
 {
-    let no = given(number_in(matches, "no"))?;
-    let rev = given(number_if_any(matches, "rev"))?;
-    let db = copied(alloc, value(matches, "db"))?;
-    Ok(Line::Show { db, no, rev })
+    line_with!(alloc, matches, Show: no = number_in "no", rev = number_if_any "rev")
 }
 
 fn export(alloc: Global, matches: &ArgMatches<'_>) -> Result<Line, LineFault>
@@ -97,46 +106,6 @@ fn export(alloc: Global, matches: &ArgMatches<'_>) -> Result<Line, LineFault>
     let db = copied(alloc, value(matches, "db"))?;
     let name = copied(alloc, name)?;
     Ok(Line::Export { db, name })
-}
-
-fn search(alloc: Global, matches: &ArgMatches<'_>) -> Result<Line, LineFault>
-    ensures { ReadsAs (said_with verb.Search (rows_of (found_of matches.now))) said_by result }
-{
-    let strategy = given(strategy_in(matches, "strategy"))?;
-    let context = given(context_in(matches, "context"))?;
-    let query = text_of(alloc, value(matches, "query"))?;
-    let db = copied(alloc, value(matches, "db"))?;
-    Ok(Line::Search {
-        db,
-        strategy,
-        context,
-        query,
-    })
-}
-
-fn count(alloc: Global, matches: &ArgMatches<'_>) -> Result<Line, LineFault>
-    ensures { ReadsAs (said_with verb.Count (rows_of (found_of matches.now))) said_by result }
-{
-    let strategy = given(strategy_in(matches, "strategy"))?;
-    let attribute = given(attribute_in(matches, "attribute"))?;
-    let query = text_of(alloc, value(matches, "query"))?;
-    let db = copied(alloc, value(matches, "db"))?;
-    Ok(Line::Count {
-        db,
-        strategy,
-        attribute,
-        query,
-    })
-}
-
-fn serve(alloc: Global, matches: &ArgMatches<'_>) -> Result<Line, LineFault>
-    ensures value { ReadsAs (said_with verb.Serve (rows_of (found_of matches.now))) said_by result }
-    ensures memory { HasNoText verb.Serve (rows_of (found_of matches.now)) → result ≢ ErrOf LineFault.Memory }
-{
-    let port = given(port_in(matches, "port"))?;
-    let requests = given(requests_in(matches, "requests"))?;
-    let db = copied(alloc, value(matches, "db"))?;
-    Ok(Line::Serve { db, port, requests })
 }
 
 fn totals(alloc: Global, matches: &ArgMatches<'_>) -> Result<Line, LineFault>
@@ -153,6 +122,25 @@ fn moves(alloc: Global, matches: &ArgMatches<'_>) -> Result<Line, LineFault>
 {
     let db = copied(alloc, value(matches, "db"))?;
     Ok(Line::Moves { db })
+}
+
+fn search(alloc: Global, matches: &ArgMatches<'_>) -> Result<Line, LineFault>
+    ensures { ReadsAs (said_with verb.Search (rows_of (found_of matches.now))) said_by result }
+{
+    line_of_query!(alloc, matches, Search: context = context_in "context")
+}
+
+fn count(alloc: Global, matches: &ArgMatches<'_>) -> Result<Line, LineFault>
+    ensures { ReadsAs (said_with verb.Count (rows_of (found_of matches.now))) said_by result }
+{
+    line_of_query!(alloc, matches, Count: attribute = attribute_in "attribute")
+}
+
+fn serve(alloc: Global, matches: &ArgMatches<'_>) -> Result<Line, LineFault>
+    ensures value { ReadsAs (said_with verb.Serve (rows_of (found_of matches.now))) said_by result }
+    ensures memory { HasNoText verb.Serve (rows_of (found_of matches.now)) → result ≢ ErrOf LineFault.Memory }
+{
+    line_with!(alloc, matches, Serve: port = port_in "port", requests = requests_in "requests")
 }
 
 /// The line of a command with these values.

@@ -1,13 +1,11 @@
 //! The commands, declared to clap.
 
-ghost use Rattle.std.specs.Prelude.{◌≡◌, IfOk, Some, false, codes, option_map};
+ghost use Rattle.std.specs.Prelude.{◌≡◌, IfOk, Some, false, fold, option_map};
 ghost use Rattle.clap.specs.Words.{app_of, rule_of, new_app, with_rule, with_subcommand};
 ghost use Rattle.clap.specs.declared.Command.TheViews.{out-Command};
-ghost use Rattle.tb_cli.specs.Arguments.{argument_rule};
+ghost use Rattle.tb_cli.specs.Arguments.{with_argument};
 ghost use Rattle.tb_cli.specs.Help.{about_text, ending_text, IsExplainedBy};
-ghost use Rattle.tb_cli.specs.Tree.{with_db, with_db_and_user, with_db_and_strategy, with_user_and_word, with_query};
-ghost use Rattle.tb_cli.specs.Tree.{in_file_app, event_app, correct_app, show_app, export_app, search_app, count_app};
-ghost use Rattle.tb_cli.specs.Tree.{serve_app, top_app, app_by, desk_app, word_of, IsKnownAs};
+ghost use Rattle.tb_cli.specs.Tree.{app_by, desk_app, program_app, top_app, word_of, IsKnownAs};
 ghost use Rattle.tb_cli.specs.declared.help.TheConstants.{ABOUT, ENDING};
 ghost use Rattle.tb_cli.specs.declared.tree.TheConstants.{VERSION};
 
@@ -17,14 +15,25 @@ use crate::verbs::{VERBS, Verb, word_of};
 use clap::{Arg, Command};
 use std::alloc::{AllocError, Global};
 
-/// A command with its help, and without an argument.
-fn command<'a>(alloc: Global, verb: Verb) -> Command<'a>
-    ensures known { IsKnownAs (new_app (word_of verb)) result }
-    ensures help { IsExplainedBy (about_text verb) (ending_text verb) result }
+/// A command of this name with its help, and without an argument.
+pub(crate) fn named<'a>(alloc: Global, name: &'a str, about: &'a str, end: &'a str) -> Command<'a>
+    ensures known { IsKnownAs (new_app name.entry.now) result }
+    ensures help { IsExplainedBy about.entry.now end.entry.now result }
 {
-    Command::new(alloc, word_of(verb))
-        .about(about(verb))
-        .after_help(ending(verb))
+    Command::new(alloc, name).about(about).after_help(end)
+}
+
+/// What `--version` prints after a program's name: the version, and the toolchain that proves the program. tools/lint
+/// compares the second line with what `rt version` prints.
+pub(crate) const VERSION: &str = "0.1.0\nproved with rattle-kit-13f logic dac8208d650f15bf";
+
+/// A program of this name, with its version and what its help says.
+pub(crate) fn program<'a>(alloc: Global, name: &'a str, about: &'a str, end: &'a str) -> Command<'a>
+    ensures known { IsKnownAs (program_app name.entry.now) result }
+    ensures help { IsExplainedBy about.entry.now end.entry.now result }
+    ensures version { option_map (λ text. text.now) (out-Command result).version ≡ Some VERSION.now }
+{
+    named(alloc, name, about, end).version(VERSION)
 }
 
 /// Adds an argument to the command.
@@ -48,117 +57,58 @@ pub(crate) fn with_sub<'a>(
     command.subcommand(sub)
 }
 
-fn with_db<'a>(alloc: Global, verb: Verb) -> Result<Command<'a>, AllocError>
-    ensures { IfOk result (IsKnownAs (with_db (new_app (word_of verb)))) }
-{
-    with(command(alloc, verb), arg_of(alloc, Argument::Desk))
-}
-
-fn with_db_and_user<'a>(alloc: Global, verb: Verb) -> Result<Command<'a>, AllocError>
-    ensures { IfOk result (IsKnownAs (with_db_and_user (new_app (word_of verb)))) }
-{
-    with(with_db(alloc, verb)?, arg_of(alloc, Argument::User))
-}
-
-fn with_db_and_strategy<'a>(alloc: Global, verb: Verb) -> Result<Command<'a>, AllocError>
-    ensures { IfOk result (IsKnownAs (with_db_and_strategy (new_app (word_of verb)))) }
-{
-    with(with_db(alloc, verb)?, arg_of(alloc, Argument::Strategy))
-}
-
-/// A command that works on a file and requires `--db`.
-fn in_file<'a>(alloc: Global, verb: Verb) -> Result<Command<'a>, AllocError>
-    ensures { IfOk result (IsKnownAs (in_file_app (word_of verb))) }
-{
-    with(command(alloc, verb), arg_of(alloc, Argument::DeskNeeded))
-}
-
-/// A command by a user on what this argument names.
-fn with_user_and_word<'a>(
+/// Adds these arguments to the command, in their order.
+pub(crate) fn with_all<'a>(
     alloc: Global,
-    verb: Verb,
-    word: Argument,
+    mut command: Command<'a>,
+    arguments: &[Argument],
 ) -> Result<Command<'a>, AllocError>
-    ensures { IfOk result (IsKnownAs (with_rule (with_db_and_user (new_app (word_of verb))) (argument_rule word))) }
-{
-    with(with_db_and_user(alloc, verb)?, arg_of(alloc, word))
-}
-
-fn event<'a>(alloc: Global) -> Result<Command<'a>, AllocError>
-    ensures { IfOk result (IsKnownAs event_app) }
-{
-    let command = with_user_and_word(alloc, Verb::Event, Argument::Batch)?;
-    with(command, arg_of(alloc, Argument::Step))
-}
-
-fn correct<'a>(alloc: Global) -> Result<Command<'a>, AllocError>
-    ensures { IfOk result (IsKnownAs correct_app) }
-{
-    with(
-        on_sentence(alloc, Verb::Correct)?,
-        arg_of(alloc, Argument::Base),
-    )
-}
-
-/// A command by a user on a sentence.
-fn on_sentence<'a>(alloc: Global, verb: Verb) -> Result<Command<'a>, AllocError>
-    ensures { IfOk result (IsKnownAs (with_user_and_word (word_of verb) (codes "no"))) }
-{
-    with_user_and_word(alloc, verb, Argument::Sentence)
-}
-
-fn show<'a>(alloc: Global) -> Result<Command<'a>, AllocError>
-    ensures { IfOk result (IsKnownAs show_app) }
-{
-    let command = with(
-        with_db(alloc, Verb::Show)?,
-        arg_of(alloc, Argument::Revision),
-    )?;
-    with(command, arg_of(alloc, Argument::Sentence))
-}
-
-fn export<'a>(alloc: Global) -> Result<Command<'a>, AllocError>
-    ensures { IfOk result (IsKnownAs export_app) }
-{
-    with(
-        with_db(alloc, Verb::Export)?,
-        arg_of(alloc, Argument::BatchIfAny),
-    )
-}
-
-/// Adds the query to the command, as its last word.
-fn with_query<'a>(alloc: Global, command: Command<'a>) -> Result<Command<'a>, AllocError>
     requires whole { (out-Command command).has_globals ≡ false }
-    ensures { IfOk result (IsKnownAs (with_query (app_of command.entry))) }
+    ensures { IfOk result (IsKnownAs (fold with_argument (app_of command.entry) arguments.now)) }
 {
-    with(command, arg_of(alloc, Argument::Query))
+    for argument in arguments {
+        command = with(command, arg_of(alloc, *argument))?;
+    }
+    Ok(command)
 }
 
-fn search<'a>(alloc: Global) -> Result<Command<'a>, AllocError>
-    ensures { IfOk result (IsKnownAs search_app) }
-{
-    let command = with(
-        with_db_and_strategy(alloc, Verb::Search)?,
-        arg_of(alloc, Argument::Context),
-    )?;
-    with_query(alloc, command)
+/// A command with these arguments.
+macro_rules! taking {
+    ($alloc:ident, $verb:ident: $($argument:ident)+) => {
+        with_all($alloc, command($alloc, $verb), &[$(Argument::$argument),+])
+    };
 }
 
-fn count<'a>(alloc: Global) -> Result<Command<'a>, AllocError>
-    ensures { IfOk result (IsKnownAs count_app) }
-{
-    let command = with(
-        with_db_and_strategy(alloc, Verb::Count)?,
-        arg_of(alloc, Argument::Attribute),
-    )?;
-    with_query(alloc, command)
+pub(crate) use taking;
+
+/// The whole command: each of these commands is added, in this order.
+macro_rules! with_each {
+    ($alloc:ident, $verbs:ident) => {{
+        let mut command = top($alloc);
+        for verb in &$verbs {
+            command = with_sub(command, subcommand($alloc, *verb)?)?;
+        }
+        Ok(command)
+    }};
 }
 
-fn serve<'a>(alloc: Global) -> Result<Command<'a>, AllocError>
-    ensures { IfOk result (IsKnownAs serve_app) }
+pub(crate) use with_each;
+
+/// A command with its help, and without an argument.
+fn command<'a>(alloc: Global, verb: Verb) -> Command<'a>
+    ensures known { IsKnownAs (new_app (word_of verb)) result }
+    ensures help { IsExplainedBy (about_text verb) (ending_text verb) result }
 {
-    let command = with(with_db(alloc, Verb::Serve)?, arg_of(alloc, Argument::Port))?;
-    with(command, arg_of(alloc, Argument::Requests))
+    named(alloc, word_of(verb), about(verb), ending(verb))
+}
+
+/// The program: its name, its version and what its help says.
+fn top<'a>(alloc: Global) -> Command<'a>
+    ensures known { IsKnownAs top_app result }
+    ensures help { IsExplainedBy ABOUT.now ENDING.now result }
+    ensures version { option_map (λ text. text.now) (out-Command result).version ≡ Some VERSION.now }
+{
+    program(alloc, "treedesk", ABOUT, ENDING)
 }
 
 /// A command, as it is declared to clap.
@@ -167,46 +117,26 @@ fn subcommand<'a>(alloc: Global, verb: Verb) -> Result<Command<'a>, AllocError>
 {
     match verb {
         Verb::Check => Ok(command(alloc, verb)),
-        Verb::New => in_file(alloc, verb),
-        Verb::Migrate => in_file(alloc, verb),
-        Verb::Import => with_user_and_word(alloc, verb, Argument::BatchNew),
-        Verb::Event => event(alloc),
-        Verb::Correct => correct(alloc),
-        Verb::Pull => on_sentence(alloc, verb),
-        Verb::Restore => on_sentence(alloc, verb),
-        Verb::Show => show(alloc),
-        Verb::Export => export(alloc),
-        Verb::Totals => with_db(alloc, verb),
-        Verb::Moves => with_db(alloc, verb),
-        Verb::Search => search(alloc),
-        Verb::Count => count(alloc),
-        Verb::Serve => serve(alloc),
+        Verb::New => taking!(alloc, verb: DeskNeeded),
+        Verb::Migrate => taking!(alloc, verb: DeskNeeded),
+        Verb::Import => taking!(alloc, verb: Desk User BatchNew),
+        Verb::Event => taking!(alloc, verb: Desk User Batch Step),
+        Verb::Correct => taking!(alloc, verb: Desk User Sentence Base),
+        Verb::Pull => taking!(alloc, verb: Desk User Sentence),
+        Verb::Restore => taking!(alloc, verb: Desk User Sentence),
+        Verb::Show => taking!(alloc, verb: Desk Revision Sentence),
+        Verb::Export => taking!(alloc, verb: Desk BatchIfAny),
+        Verb::Totals => taking!(alloc, verb: Desk),
+        Verb::Moves => taking!(alloc, verb: Desk),
+        Verb::Search => taking!(alloc, verb: Desk Strategy Context Query),
+        Verb::Count => taking!(alloc, verb: Desk Strategy Attribute Query),
+        Verb::Serve => taking!(alloc, verb: Desk Port Requests),
     }
-}
-
-/// What `--version` prints after a program's name: the version, and the toolchain that proves the program. tools/lint
-/// compares the second line with what `rt version` prints.
-pub(crate) const VERSION: &str = "0.1.0\nproved with rattle-kit-13f logic dac8208d650f15bf";
-
-/// The program's name, its version and what its help says.
-fn top<'a>(alloc: Global) -> Command<'a>
-    ensures known { IsKnownAs top_app result }
-    ensures help { IsExplainedBy ABOUT.now ENDING.now result }
-    ensures version { option_map (λ text. text.now) (out-Command result).version ≡ Some VERSION.now }
-{
-    Command::new(alloc, "treedesk")
-        .version(VERSION)
-        .about(ABOUT)
-        .after_help(ENDING)
 }
 
 /// The whole command, with its subcommands in the order of help.
 pub fn desk<'a>(alloc: Global) -> Result<Command<'a>, AllocError>
     ensures { IfOk result (λ r. app_of r ≡ desk_app) }
 {
-    let mut command = top(alloc);
-    for verb in &VERBS {
-        command = with_sub(command, subcommand(alloc, *verb)?)?;
-    }
-    Ok(command)
+    with_each!(alloc, VERBS)
 }

@@ -33,16 +33,23 @@ fn file_in(alloc: Global, values: &ArgMatches<'_>) -> Result<String, LineFault>
     text_of(alloc, value(values, "db"))
 }
 
+/// The line of a list of what a text names. The text is found before one is copied.
+macro_rules! list_by_name {
+    ($alloc:ident, $values:ident, $list:ident: $name:ident = $find:ident $id:expr) => {{
+        let $name = given($find($values, $id))?;
+        let db = file_in($alloc, $values)?;
+        let $name = String::from_str($alloc, $name)?;
+        Ok(ViewLine::List {
+            db,
+            list: ViewList::$list { $name },
+        })
+    }};
+}
+
 fn sentences(alloc: Global, values: &ArgMatches<'_>) -> Result<ViewLine, LineFault>
     ensures { ReadsAs (sentences_with (rows_of (found_of values.now))) viewed_by result }
 {
-    let name = given(batch_in(values, "name"))?;
-    let db = file_in(alloc, values)?;
-    let name = String::from_str(alloc, name)?;
-    Ok(ViewLine::List {
-        db,
-        list: ViewList::Sentences { name },
-    })
+    list_by_name!(alloc, values, Sentences: name = batch_in "name")
 }
 
 fn revisions(alloc: Global, values: &ArgMatches<'_>) -> Result<ViewLine, LineFault>
@@ -60,13 +67,7 @@ fn revisions(alloc: Global, values: &ArgMatches<'_>) -> Result<ViewLine, LineFau
 fn find(alloc: Global, values: &ArgMatches<'_>) -> Result<ViewLine, LineFault>
     ensures { ReadsAs (find_with (rows_of (found_of values.now))) viewed_by result }
 {
-    let sent_id = given(value(values, "sent_id"))?;
-    let db = file_in(alloc, values)?;
-    let sent_id = String::from_str(alloc, sent_id)?;
-    Ok(ViewLine::List {
-        db,
-        list: ViewList::Find { sent_id },
-    })
+    list_by_name!(alloc, values, Find: sent_id = value "sent_id")
 }
 
 /// The tree of the sentence with the number in the values, of the desk in this file.

@@ -3,7 +3,7 @@
 ghost use Rattle.std.specs.Prelude.{◌≡◌};
 ghost use Rattle.tb_cli.specs.Help.{view_about_text, view_ending_text};
 
-use crate::help::program_ending;
+use crate::help::{program_ending, text_by};
 use crate::view_verbs::ViewVerb;
 use crate::{view_abouts, view_endings};
 
@@ -31,32 +31,27 @@ prints, with an example.",
 pub(crate) const ABOUT: &str =
     "Lists and trees of what a treebank desk holds, the faults of a file, and the desk in a browser";
 
+/// The text of a command of deskview, which is the constant of its name in this module.
+macro_rules! command_text {
+    ($verb:ident, $texts:ident) => {
+        text_by!(
+            $verb, $texts, ViewVerb:
+            Batches BATCHES, Sentences SENTENCES, Revisions REVISIONS, Find FIND, Tree TREE,
+            Check CHECK, Page PAGE
+        )
+    };
+}
+
 /// What a command of deskview does, as the list of commands shows it.
 pub(crate) fn view_about<'a>(verb: ViewVerb) -> &'a str
     ensures { result.now ≡ view_about_text verb }
 {
-    match verb {
-        ViewVerb::Batches => view_abouts::BATCHES,
-        ViewVerb::Sentences => view_abouts::SENTENCES,
-        ViewVerb::Revisions => view_abouts::REVISIONS,
-        ViewVerb::Find => view_abouts::FIND,
-        ViewVerb::Tree => view_abouts::TREE,
-        ViewVerb::Check => view_abouts::CHECK,
-        ViewVerb::Page => view_abouts::PAGE,
-    }
+    command_text!(verb, view_abouts)
 }
 
 /// The end of the help of a command of deskview.
 pub(crate) fn view_ending<'a>(verb: ViewVerb) -> &'a str
     ensures { result.now ≡ view_ending_text verb }
 {
-    match verb {
-        ViewVerb::Batches => view_endings::BATCHES,
-        ViewVerb::Sentences => view_endings::SENTENCES,
-        ViewVerb::Revisions => view_endings::REVISIONS,
-        ViewVerb::Find => view_endings::FIND,
-        ViewVerb::Tree => view_endings::TREE,
-        ViewVerb::Check => view_endings::CHECK,
-        ViewVerb::Page => view_endings::PAGE,
-    }
+    command_text!(verb, view_endings)
 }

@@ -15,6 +15,17 @@ pub(crate) enum ViewVerb {
     Page,
 }
 
+/// The commands in the order of help.
+pub(crate) const VIEW_VERBS: [ViewVerb; 7] = [
+    ViewVerb::Batches,
+    ViewVerb::Sentences,
+    ViewVerb::Revisions,
+    ViewVerb::Find,
+    ViewVerb::Tree,
+    ViewVerb::Check,
+    ViewVerb::Page,
+];
+
 /// The word of a command of deskview.
 pub(crate) fn view_word<'a>(verb: ViewVerb) -> &'a str
     ensures { result.now ≡ view_word verb }
