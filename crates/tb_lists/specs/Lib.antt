@@ -6,4 +6,4 @@ pub mod Found
 pub mod Made
 pub mod Revisions
 pub mod Sentences
-pub mod Told
+pub mod Shown

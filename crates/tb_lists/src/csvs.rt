@@ -15,10 +15,38 @@ use std::io::Write;
 use std::slice;
 use tb_report::{Table, TableRow, put_row, rows_text};
 
+/// The names of columns, as a row.
+macro_rules! names {
+    ($($name:literal),+) => {
+        [$($name.as_bytes()),+]
+    };
+}
+
+/// Writes a row of these values. The numbers among them are formatted in buffers of these names.
+macro_rules! put_values {
+    ($rows:ident, $($number:ident)+: $($value:expr),+) => {{
+        $(let mut $number = Buffer::new();)+
+        put_row($rows, &[$($value.as_bytes()),+])
+    }};
+}
+
 fn word_of_state(batch: &BatchLine) -> &str
     ensures { result.now ≡ state_word batch.now.state }
 {
     batch.state.word()
+}
+
+fn word_of_kind(revision: &RevisionLine) -> &str
+    ensures { result.now ≡ kind_word revision.now.kind }
+{
+    revision.kind.word()
+}
+
+/// By reference, since texts of one array have one lifetime.
+fn word_of_pulled(is_pulled: &bool) -> &str
+    ensures { result.now ≡ yes_or_no is_pulled.now }
+{
+    if *is_pulled { "yes" } else { "no" }
 }
 
 /// The header line is `no,name,state,worker,first,sentences,words,pulled,pulled_words`. The worker is empty where nobody
@@ -31,48 +59,28 @@ impl TableRow for BatchLine {
     ghost fields = { batch_fields };
 
     fn put_head<W: Write + Drop>(rows: &mut Writer<W>) -> Result<(), AllocError> {
-        let head = [
-            "no".as_bytes(),
-            "name".as_bytes(),
-            "state".as_bytes(),
-            "worker".as_bytes(),
-            "first".as_bytes(),
-            "sentences".as_bytes(),
-            "words".as_bytes(),
-            "pulled".as_bytes(),
-            "pulled_words".as_bytes(),
-        ];
+        let head = names!(
+            "no",
+            "name",
+            "state",
+            "worker",
+            "first",
+            "sentences",
+            "words",
+            "pulled",
+            "pulled_words"
+        );
         put_row(rows, &head)
     }
 
     fn put<W: Write + Drop>(&self, rows: &mut Writer<W>) -> Result<(), AllocError> {
-        let mut no = Buffer::new();
-        let mut first = Buffer::new();
-        let mut sentences = Buffer::new();
-        let mut words = Buffer::new();
-        let mut pulled = Buffer::new();
-        let mut pulled_words = Buffer::new();
-        put_row(
-            rows,
-            &[
-                no.format(self.no).as_bytes(),
-                self.name.as_bytes(),
-                word_of_state(self).as_bytes(),
-                self.worker.as_bytes(),
-                first.format(self.first).as_bytes(),
-                sentences.format(self.sentences).as_bytes(),
-                words.format(self.words).as_bytes(),
-                pulled.format(self.pulled).as_bytes(),
-                pulled_words.format(self.pulled_words).as_bytes(),
-            ],
+        put_values!(
+            rows, no first sentences words pulled pulled_words:
+            no.format(self.no), self.name, word_of_state(self), self.worker,
+            first.format(self.first), sentences.format(self.sentences), words.format(self.words),
+            pulled.format(self.pulled), pulled_words.format(self.pulled_words)
         )
     }
-}
-
-fn word_of_kind(revision: &RevisionLine) -> &str
-    ensures { result.now ≡ kind_word revision.now.kind }
-{
-    revision.kind.word()
 }
 
 /// The header line is `rev,who,kind,move`.
@@ -84,35 +92,16 @@ impl TableRow for RevisionLine {
     ghost fields = { revision_fields };
 
     fn put_head<W: Write + Drop>(rows: &mut Writer<W>) -> Result<(), AllocError> {
-        let head = [
-            "rev".as_bytes(),
-            "who".as_bytes(),
-            "kind".as_bytes(),
-            "move".as_bytes(),
-        ];
+        let head = names!("rev", "who", "kind", "move");
         put_row(rows, &head)
     }
 
     fn put<W: Write + Drop>(&self, rows: &mut Writer<W>) -> Result<(), AllocError> {
-        let mut rev = Buffer::new();
-        let mut move_no = Buffer::new();
-        put_row(
-            rows,
-            &[
-                rev.format(self.rev).as_bytes(),
-                self.who.as_bytes(),
-                word_of_kind(self).as_bytes(),
-                move_no.format(self.move_no).as_bytes(),
-            ],
+        put_values!(
+            rows, rev move_no:
+            rev.format(self.rev), self.who, word_of_kind(self), move_no.format(self.move_no)
         )
     }
-}
-
-/// By reference, since texts of one array have one lifetime.
-fn word_of_pulled(is_pulled: &bool) -> &str
-    ensures { result.now ≡ yes_or_no is_pulled.now }
-{
-    if *is_pulled { "yes" } else { "no" }
 }
 
 /// The header line is `no,sent_id,rev,who,words,pulled,text`. `pulled` is `yes` or `no`.
@@ -124,33 +113,15 @@ impl TableRow for SentenceLine {
     ghost fields = { sentence_fields };
 
     fn put_head<W: Write + Drop>(rows: &mut Writer<W>) -> Result<(), AllocError> {
-        let head = [
-            "no".as_bytes(),
-            "sent_id".as_bytes(),
-            "rev".as_bytes(),
-            "who".as_bytes(),
-            "words".as_bytes(),
-            "pulled".as_bytes(),
-            "text".as_bytes(),
-        ];
+        let head = names!("no", "sent_id", "rev", "who", "words", "pulled", "text");
         put_row(rows, &head)
     }
 
     fn put<W: Write + Drop>(&self, rows: &mut Writer<W>) -> Result<(), AllocError> {
-        let mut no = Buffer::new();
-        let mut rev = Buffer::new();
-        let mut words = Buffer::new();
-        put_row(
-            rows,
-            &[
-                no.format(self.no).as_bytes(),
-                self.sent_id.as_bytes(),
-                rev.format(self.rev).as_bytes(),
-                self.who.as_bytes(),
-                words.format(self.words).as_bytes(),
-                word_of_pulled(&self.pulled).as_bytes(),
-                self.text.as_bytes(),
-            ],
+        put_values!(
+            rows, no rev words:
+            no.format(self.no), self.sent_id, rev.format(self.rev), self.who,
+            words.format(self.words), word_of_pulled(&self.pulled), self.text
         )
     }
 }
@@ -164,29 +135,15 @@ impl TableRow for FoundLine {
     ghost fields = { found_fields };
 
     fn put_head<W: Write + Drop>(rows: &mut Writer<W>) -> Result<(), AllocError> {
-        let head = [
-            "no".as_bytes(),
-            "batch".as_bytes(),
-            "rev".as_bytes(),
-            "words".as_bytes(),
-            "pulled".as_bytes(),
-        ];
+        let head = names!("no", "batch", "rev", "words", "pulled");
         put_row(rows, &head)
     }
 
     fn put<W: Write + Drop>(&self, rows: &mut Writer<W>) -> Result<(), AllocError> {
-        let mut no = Buffer::new();
-        let mut rev = Buffer::new();
-        let mut words = Buffer::new();
-        put_row(
-            rows,
-            &[
-                no.format(self.no).as_bytes(),
-                self.batch.as_bytes(),
-                rev.format(self.rev).as_bytes(),
-                words.format(self.words).as_bytes(),
-                word_of_pulled(&self.pulled).as_bytes(),
-            ],
+        put_values!(
+            rows, no rev words:
+            no.format(self.no), self.batch, rev.format(self.rev), words.format(self.words),
+            word_of_pulled(&self.pulled)
         )
     }
 }

@@ -23,15 +23,22 @@ use tb_refine::{
 };
 use tb_tables::{BatchRow, SentenceRow};
 
+/// All rows of a table.
+macro_rules! read_all {
+    ($rows:ident, $alloc:ident, $conn:ident) => {{
+        desk_rows_are_readable();
+        one_list_for_the_rows();
+        faults::reported(tb_reads::$rows($alloc, $conn))
+    }};
+}
+
 /// The rows of all batches, by number.
 fn read_batches<S: Alter>(alloc: Global, conn: &mut Connection<S>) -> Result<Vec<BatchRow>, Fault>
     ensures answered { Tells S.Store conn.old conn.new result (λ s v.
         map batch_of v.items ≡ map batch_record s.batches) }
     ensures read { IsRead S.Store conn.old conn.new result }
 {
-    desk_rows_are_readable();
-    one_list_for_the_rows();
-    faults::reported(tb_reads::batches(alloc, conn))
+    read_all!(batches, alloc, conn)
 }
 
 /// The rows of all sentences, by number.
@@ -43,9 +50,7 @@ fn read_sentences<S: Alter>(
         map sentence_of v.items ≡ map sentence_record s.sentences) }
     ensures read { IsRead S.Store conn.old conn.new result }
 {
-    desk_rows_are_readable();
-    one_list_for_the_rows();
-    faults::reported(tb_reads::sentences(alloc, conn))
+    read_all!(sentences, alloc, conn)
 }
 
 /// The counts of so many batches, from rows that were read.

@@ -3,7 +3,7 @@
 ghost use Rattle.std.specs.Prelude.{◌≡◌, ◌≢◌, ◌∷◌, [], Err, IfErr, IfOk, None, Some, string_bytes};
 ghost use Rattle.tb_lists.specs.Prelude.{AnyRefusal, BlockText, IsFile, IsNoDevice, sentence_of, text_value_of};
 ghost use Rattle.tb_lists.specs.Sentences.{SentenceText};
-ghost use Rattle.tb_lists.specs.Told.{told};
+ghost use Rattle.tb_lists.specs.Shown.{shown};
 
 use std::alloc::Global;
 use std::marker::Model;
@@ -95,7 +95,7 @@ pub(crate) fn line_of(
     current: RevisionRow,
 ) -> Result<SentenceLine, Fault>
     ensures line { IfOk result (λ line. (b : BlockText) → IsFile (string_bytes current.body) (b ∷ [])
-        → line ≡ told no (sentence_of row.now) is_pulled (string_bytes current.who) (text_value_of b)) }
+        → line ≡ shown no (sentence_of row.now) is_pulled (string_bytes current.who) (text_value_of b)) }
     ensures known { result ≡ Err Fault.NotADesk → (b : BlockText) → IsFile (string_bytes current.body) (b ∷ [])
         → ⊥ }
     ensures never_refuses { (r : AnyRefusal) → result ≢ Err (Fault.Refused r) }

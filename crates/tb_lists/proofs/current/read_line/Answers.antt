@@ -6,7 +6,7 @@ use Rattle.tb_tables.specs.Values.{sentence_of}
 use Rattle.tb_reads.proofs.Shown.{if_ok}
 use Rattle.tb_refine.proofs.Revised.{has_current}
 use Rattle.tb_refine.proofs.RowsOfState.{current_is}
-use Rattle.tb_lists.proofs.Told.{current_file, line_is}
+use Rattle.tb_lists.proofs.ShownLines.{current_file, line_is}
 use Rattle.tb_refine.proofs.DeskReads.{read_made, read_stopped}
 use Rattle.tb_lists.proofs.current.read_line.Goals as goal
 

@@ -13,7 +13,7 @@ use Rattle.tb_refine.specs.Listed.{is_listed}
 use Rattle.tb_refine.proofs.Unchanged.{desk_after}
 use Rattle.tb_lists.specs.Sentences.{sentence_line, sentences_from}
 use Rattle.tb_lists.proofs.Summed.{drop_end}
-use Rattle.tb_lists.proofs.Told.{IsSoFar, row_there, flag_is, with_line, without_line}
+use Rattle.tb_lists.proofs.ShownLines.{IsSoFar, row_there, flag_is, with_line, without_line}
 use Rattle.tb_refine.proofs.DeskReads.{next_stopped, read_stopped, read_wanting, read_well}
 use Rattle.tb_lists.proofs.current.read_lines.Goals as goal
 use Rattle.tb_lists.proofs.current.read_lines.Goals.{then-row-batch+in_ok-read_line+in_ok-push, else-row-batch}

@@ -1,5 +1,5 @@
 use Rattle.std.proofs.Common.{◌≡◌}
-use Rattle.tb_lists.proofs.Told.{IsSoFar}
+use Rattle.tb_lists.proofs.ShownLines.{IsSoFar}
 use Rattle.tb_lists.proofs.current.read_lines.Given as goal
 
 abbrev pub invariant-loop-row : goal.invariant-loop-row

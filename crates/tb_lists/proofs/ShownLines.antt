@@ -1,4 +1,4 @@
--- What the rows and the current revisions tell of a batch's sentences is what the state has of them.
+-- What the rows and the current revisions show of a batch's sentences is what the state has of them.
 use Rattle.std.proofs.Common.{◌≡◌, ℕ, zero, suc, ◌+◌, ◌<◌, List, [], ◌∷◌, ◌++◌, map, drop, length, get_or, Bool, true, false, cond, nat_eq, Some, slice_get, refl, sym, ap, subst, ◌∙◌, arith, append_assoc}
 use Rattle.std.specs.List.{AllByRecursion}
 use Rattle.sqlite.specs.Held.{Held, state}
@@ -20,7 +20,7 @@ use Rattle.tb_refine.specs.Listed.{is_listed}
 use Rattle.tb_refine.proofs.Listing.{listed_pulled, pulled_ascends}
 use Rattle.tb_refine.proofs.RowsOfState.{ReadsBack}
 use Rattle.tb_lists.specs.Sentences.{SentenceText, sentence_line, sentences_from}
-use Rattle.tb_lists.specs.Told.{told}
+use Rattle.tb_lists.specs.Shown.{shown}
 
 -- ---- the current revision
 
@@ -37,7 +37,7 @@ current_file s place x text all there is =
 
 -- ---- one sentence
 
-pub line_is : (n : ℕ) (r : records.Sentence) (x : Sentence) (p : Bool) (who : List ℕ) → r ≡ sentence_record x → p ≡ x.pulled → who ≡ x.current.who → told n r p who (text_value_of x.current.body) ≡ sentence_line n x
+pub line_is : (n : ℕ) (r : records.Sentence) (x : Sentence) (p : Bool) (who : List ℕ) → r ≡ sentence_record x → p ≡ x.pulled → who ≡ x.current.who → shown n r p who (text_value_of x.current.body) ≡ sentence_line n x
 line_is n r x p who row flag by = λ i. record {
   no = n;
   sent_id = (row i).sent_id;
@@ -57,7 +57,7 @@ row_there (r ∷ rows) (x ∷ xs) (suc i) row low is same =
     let it = row_there rows xs i row (omega (arith, low)) is (let tail : map sentence_of rows ≡ map sentence_record xs = cc in tail) in
     (it.0, it.1, it.2 ∙ ap (λ m. it.0 ∷ drop m (x ∷ xs)) (let e : suc (i + 1) ≡ suc i + 1 = omega arith in e), it.3)
 
--- what the pulled numbers tell of it
+-- what the pulled numbers say of it
 pub flag_is : (pulled : List ℕ) (n i : ℕ) (xs : List Sentence) (x : Sentence) (flag : Bool) → pulled ≡ pulled_from 1 xs → slice_get xs i ≡ Some x → n ≡ i + 1 → (IsAscending (λ a b. a < b) pulled → flag ≡ is_listed n pulled) → flag ≡ x.pulled
 flag_is pulled n i xs x flag is there at reported =
     let up : IsAscending (λ a b. a < b) pulled = subst (IsAscending (λ a b. a < b)) (sym is) (pulled_ascends 1 xs) in
