@@ -395,6 +395,7 @@ pub fn replays(
         → moves.now ≡ f.moves → AreFine f → IfOk result (λ b. (b ≡ true) ↔ IsReachable f) }
     ensures sure { All (λ m. m.kind ≢ Kind.Import) moves.now → IsOk result }
     ensures full { 1000000 < length entries.now → IsOk result }
+    ensures many { 1000000000 < length moves.now → IsOk result }
 {
     if entries.len() > 1_000_000 || moves.len() > 1_000_000_000 {
         return Ok(false);
