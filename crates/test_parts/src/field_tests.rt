@@ -8,6 +8,7 @@ use tb_chars::{has_white_space, is_solid_text};
 use tb_fields::{is_blank_field, is_feature_list, is_relation_text, is_tag, relation_base};
 
 /// A question that can be asked of a field.
+#[derive(Drop)]
 enum FieldQuestion {
     Features,
     Tag,
@@ -106,13 +107,17 @@ const SOLIDS: &str = "\
 
 #[test]
 fn tells_what_a_field_may_hold(rt: HostRuntime) {
-    let alloc = rt.alloc();
-    assert_answers(&rt, alloc, &FieldQuestion::Features, FEATURES, 18);
-    assert_answers(&rt, alloc, &FieldQuestion::Features, FORTY_VALUES, 3);
-    assert_answers(&rt, alloc, &FieldQuestion::Tag, TAGS, 8);
-    assert_answers(&rt, alloc, &FieldQuestion::Relation, RELATIONS, 14);
-    assert_answers(&rt, alloc, &FieldQuestion::RelationBase, RELATION_BASES, 2);
-    assert_answers(&rt, alloc, &FieldQuestion::Blank, BLANKS, 2);
-    assert_answers(&rt, alloc, &FieldQuestion::WhiteSpace, WHITE_SPACES, 2);
-    assert_answers(&rt, alloc, &FieldQuestion::Solid, SOLIDS, 3);
+    let tables = [
+        (FieldQuestion::Features, FEATURES, 18),
+        (FieldQuestion::Features, FORTY_VALUES, 3),
+        (FieldQuestion::Tag, TAGS, 8),
+        (FieldQuestion::Relation, RELATIONS, 14),
+        (FieldQuestion::RelationBase, RELATION_BASES, 2),
+        (FieldQuestion::Blank, BLANKS, 2),
+        (FieldQuestion::WhiteSpace, WHITE_SPACES, 2),
+        (FieldQuestion::Solid, SOLIDS, 3),
+    ];
+    for table in &tables {
+        assert_answers(&rt, rt.alloc(), &table.0, table.1, table.2);
+    }
 }

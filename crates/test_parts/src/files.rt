@@ -74,6 +74,16 @@ const LETTERS: &str = "\
     5\tz\tc,\"d\"\tX\t_\t_\t1\tdep\t_\t_\n\
     \n";
 
+/// "the old big sea the boat".
+pub(crate) const BOAT: &str = "\
+    1\tthe\t_\tDET\t_\t_\t_\t_\t_\t_\n\
+    2\told\t_\tADJ\t_\t_\t_\t_\t_\t_\n\
+    3\tbig\t_\tADJ\t_\t_\t_\t_\t_\t_\n\
+    4\tsea\t_\tNOUN\t_\t_\t_\t_\t_\t_\n\
+    5\tthe\t_\tDET\t_\t_\t_\t_\t_\t_\n\
+    6\tboat\t_\tNOUN\t_\t_\t_\t_\t_\t_\n\
+    \n";
+
 /// The text with this name; empty for any other name.
 fn text_named(name: &str) -> &'static str {
     match name {

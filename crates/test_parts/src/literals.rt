@@ -16,12 +16,12 @@ pub(crate) fn needle(
     LiteralMatcher::new(alloc, String::from_str(alloc, text)?, flag, 10 << 20)
 }
 
-/// Whether the tester's literal fits the value, or some item of it.
-pub(crate) fn fits(tester: &mut LiteralCache<'_>, value: &str, by_items: bool) -> bool {
+/// Whether the literal of the cache fits the value, or some item of it.
+pub(crate) fn fits(cache: &mut LiteralCache<'_>, value: &str, by_items: bool) -> bool {
     if by_items {
-        tester.meets_item(value)
+        cache.meets_item(value)
     } else {
-        tester.meets(value)
+        cache.meets(value)
     }
 }
 
@@ -32,8 +32,8 @@ fn literal_fits(
     value: &str,
     by_items: bool,
 ) -> bool {
-    let mut tester = needle.tester(alloc).expect(rt, "error");
-    fits(&mut tester, value, by_items)
+    let mut cache = needle.tester(alloc).expect(rt, "error");
+    fits(&mut cache, value, by_items)
 }
 
 /// Whether the literal before `at` fits the value after it, or some item of it.

@@ -126,73 +126,53 @@ a{4294967295} => None";
 
 #[test]
 fn literals_fit_values(rt: HostRuntime) {
-    let alloc = rt.alloc();
-    assert_answers(&rt, alloc, &TextQuestion::Value(Flag::Plain), PLAIN, 30);
-    assert_answers(&rt, alloc, &TextQuestion::Value(Flag::NoCase), NO_CASE, 10);
-    assert_answers(&rt, alloc, &TextQuestion::Value(Flag::Literal), LITERAL, 8);
-    assert_answers(
-        &rt,
-        alloc,
-        &TextQuestion::Item(Flag::Plain),
-        PLAIN_ITEMS,
-        13,
-    );
-    assert_answers(
-        &rt,
-        alloc,
-        &TextQuestion::Item(Flag::NoCase),
-        NO_CASE_ITEMS,
-        1,
-    );
-    assert_answers(
-        &rt,
-        alloc,
-        &TextQuestion::Item(Flag::Literal),
-        LITERAL_ITEMS,
-        3,
-    );
-    assert_answers(&rt, alloc, &TextQuestion::Refusal(Flag::Plain), REFUSED, 16);
-    assert_answers(
-        &rt,
-        alloc,
-        &TextQuestion::Refusal(Flag::NoCase),
-        REFUSED,
-        16,
-    );
-    assert_answers(&rt, alloc, &TextQuestion::Refusal(Flag::Literal), TAKEN, 13);
+    let tables = [
+        (TextQuestion::Value(Flag::Plain), PLAIN, 30),
+        (TextQuestion::Value(Flag::NoCase), NO_CASE, 10),
+        (TextQuestion::Value(Flag::Literal), LITERAL, 8),
+        (TextQuestion::Item(Flag::Plain), PLAIN_ITEMS, 13),
+        (TextQuestion::Item(Flag::NoCase), NO_CASE_ITEMS, 1),
+        (TextQuestion::Item(Flag::Literal), LITERAL_ITEMS, 3),
+        (TextQuestion::Refusal(Flag::Plain), REFUSED, 16),
+        (TextQuestion::Refusal(Flag::NoCase), REFUSED, 16),
+        (TextQuestion::Refusal(Flag::Literal), TAKEN, 13),
+    ];
+    for table in &tables {
+        assert_answers(&rt, rt.alloc(), &table.0, table.1, table.2);
+    }
 }
 
-fn assert_value(rt: &impl Abort, tester: &mut LiteralCache<'_>, value: &str, wanted: bool) {
-    assert_same(rt, &fits(tester, value, false), &wanted, value);
+fn assert_value(rt: &impl Abort, cache: &mut LiteralCache<'_>, value: &str, wanted: bool) {
+    assert_same(rt, &fits(cache, value, false), &wanted, value);
 }
 
-fn assert_item(rt: &impl Abort, tester: &mut LiteralCache<'_>, value: &str, wanted: bool) {
-    assert_same(rt, &fits(tester, value, true), &wanted, value);
+fn assert_item(rt: &impl Abort, cache: &mut LiteralCache<'_>, value: &str, wanted: bool) {
+    assert_same(rt, &fits(cache, value, true), &wanted, value);
 }
 
-fn assert_values(rt: &impl Abort, tester: &mut LiteralCache<'_>) {
-    assert_value(rt, tester, "a", true);
-    assert_value(rt, tester, "b", false);
-    assert_value(rt, tester, "AA", true);
-    assert_value(rt, tester, "", false);
-    assert_value(rt, tester, "ab", false);
-    assert_value(rt, tester, "aAa", true);
-    assert_value(rt, tester, "_", false);
-    assert_item(rt, tester, "b|A|c", true);
-    assert_item(rt, tester, "b|ab|", false);
-    assert_item(rt, tester, "_", false);
-    assert_value(rt, tester, "a", true);
+fn assert_values(rt: &impl Abort, cache: &mut LiteralCache<'_>) {
+    assert_value(rt, cache, "a", true);
+    assert_value(rt, cache, "b", false);
+    assert_value(rt, cache, "AA", true);
+    assert_value(rt, cache, "", false);
+    assert_value(rt, cache, "ab", false);
+    assert_value(rt, cache, "aAa", true);
+    assert_value(rt, cache, "_", false);
+    assert_item(rt, cache, "b|A|c", true);
+    assert_item(rt, cache, "b|ab|", false);
+    assert_item(rt, cache, "_", false);
+    assert_value(rt, cache, "a", true);
 }
 
-fn assert_tester(rt: &impl Abort, alloc: Global, needle: &LiteralMatcher) {
+fn assert_cache(rt: &impl Abort, alloc: Global, needle: &LiteralMatcher) {
     assert_text(rt, needle.text(), "a+", "the literal");
     assert_holds(rt, needle.flag() == Flag::NoCase, "the flag");
-    let mut tester = needle.tester(alloc).expect(rt, "error");
-    assert_values(rt, &mut tester);
+    let mut cache = needle.tester(alloc).expect(rt, "error");
+    assert_values(rt, &mut cache);
 }
 
 #[test]
-fn one_tester_serves_many_values(rt: HostRuntime) {
+fn one_cache_serves_many_values(rt: HostRuntime) {
     let needle = needle(rt.alloc(), "a+", Flag::NoCase).expect(&rt, "error");
-    assert_tester(&rt, rt.alloc(), &needle);
+    assert_cache(&rt, rt.alloc(), &needle);
 }

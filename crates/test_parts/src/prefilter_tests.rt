@@ -1,8 +1,8 @@
 //! Which sentences a search skips before they are split into rows. The expected answers were worked out by hand.
 
 use crate::cases::{Question, assert_answers};
+use crate::files::BOAT;
 use crate::parsing::query_of;
-use crate::search_tests::BOAT;
 use crate::telling::said;
 use std::alloc::Global;
 use std::process::Abort;

@@ -2,6 +2,7 @@
 //! The expected answers were worked out by hand; tools/queries asks the program for many more queries.
 
 use crate::cases::{Question, assert_answers};
+use crate::files::BOAT;
 use crate::match_tests::search;
 use crate::parsing::{query_of, sentences_of};
 use crate::telling::{assert_holds, assert_same, assert_text, shown, value_text};
@@ -11,51 +12,35 @@ use tb_conllu::{BlockOf, BlockRef, Text, own_block, words};
 use tb_match::{Found, Strategy, Truth};
 use tb_query::{Attr, Expr, Flag, Query, Searcher, parse};
 
-/// "the old big sea the boat".
-pub(crate) const BOAT: &str = "\
-    1\tthe\t_\tDET\t_\t_\t_\t_\t_\t_\n\
-    2\told\t_\tADJ\t_\t_\t_\t_\t_\t_\n\
-    3\tbig\t_\tADJ\t_\t_\t_\t_\t_\t_\n\
-    4\tsea\t_\tNOUN\t_\t_\t_\t_\t_\t_\n\
-    5\tthe\t_\tDET\t_\t_\t_\t_\t_\t_\n\
-    6\tboat\t_\tNOUN\t_\t_\t_\t_\t_\t_\n\
-    \n";
-
 /// Asserts the hits. A pattern of weight 6 takes at most 168 unions on six words.
 fn assert_found(rt: &impl Abort, found: &Found, hits: &[(u32, u32)]) {
     assert_holds(rt, *found.hits.as_slice() == *hits, "the hits");
     assert_holds(rt, found.steps <= 168, "the steps");
 }
 
-/// The hits in a sentence, by a searcher that serves many.
-fn hits_by<T: Text>(
-    rt: &impl Abort,
-    alloc: Global,
-    searcher: &mut Searcher<'_>,
-    sentence: &BlockOf<T>,
-    strategy: Strategy,
-) -> Found {
-    let few = words(sentence) <= 1000;
-    assert!(rt; few, "the sentence is searched");
-    searcher.hits(alloc, sentence, strategy).expect(rt, "error")
+/// A query, and a searcher of it that serves many sentences.
+#[derive(Drop)]
+struct Asked<'q> {
+    query: &'q Query,
+    searcher: Searcher<'q>,
 }
 
-/// Asserts the hits in a sentence by the query, which makes a searcher, and by a searcher that serves many.
-fn assert_hits<T: Text>(
-    rt: &impl Abort,
-    alloc: Global,
-    query: &Query,
-    searcher: &mut Searcher<'_>,
-    sentence: &BlockOf<T>,
+/// A sentence that is searched in one way, and the hits that are wanted.
+#[derive(Drop)]
+struct Case<'a, T: Text> {
+    sentence: &'a BlockOf<T>,
     strategy: Strategy,
-    hits: &[(u32, u32)],
-) {
-    let few = words(sentence) <= 1000;
+    hits: &'a [(u32, u32)],
+}
+
+/// Asserts the hits by the query, which makes a searcher, and by a searcher that serves many.
+fn assert_hits<T: Text>(rt: &impl Abort, alloc: Global, asked: &mut Asked<'_>, case: &Case<'_, T>) {
+    let few = words(case.sentence) <= 1000;
     assert!(rt; few, "the sentence is searched");
-    let by_query = query.hits(alloc, sentence, strategy).expect(rt, "error");
-    assert_found(rt, &by_query, hits);
-    let by_searcher = hits_by(rt, alloc, searcher, sentence, strategy);
-    assert_found(rt, &by_searcher, hits);
+    let by_query = asked.query.hits(alloc, case.sentence, case.strategy);
+    assert_found(rt, &by_query.expect(rt, "error"), case.hits);
+    let by_searcher = asked.searcher.hits(alloc, case.sentence, case.strategy);
+    assert_found(rt, &by_searcher.expect(rt, "error"), case.hits);
 }
 
 /// Asserts what the matcher finds where these expressions hold.
@@ -72,82 +57,77 @@ fn assert_matches(
 }
 
 /// Asserts what the matcher finds in the tables of the query and of its searcher.
-fn assert_tables<T: Text>(
-    rt: &impl Abort,
-    alloc: Global,
-    query: &Query,
-    searcher: &mut Searcher<'_>,
-    sentence: &BlockOf<T>,
-    strategy: Strategy,
-    hits: &[(u32, u32)],
-) {
-    let few = words(sentence) <= 1000;
+fn by_tables<T: Text>(rt: &impl Abort, alloc: Global, asked: &mut Asked<'_>, case: &Case<'_, T>) {
+    let few = words(case.sentence) <= 1000;
     assert!(rt; few, "the sentence is searched");
-    let table = query.truth(alloc, sentence).expect(rt, "error");
-    assert_matches(rt, alloc, query, &table, strategy, hits);
-    let table = searcher.truth(alloc, sentence).expect(rt, "error");
-    assert_matches(rt, alloc, query, &table, strategy, hits);
+    let table = asked.query.truth(alloc, case.sentence).expect(rt, "error");
+    assert_matches(rt, alloc, asked.query, &table, case.strategy, case.hits);
+    let table = asked
+        .searcher
+        .truth(alloc, case.sentence)
+        .expect(rt, "error");
+    assert_matches(rt, alloc, asked.query, &table, case.strategy, case.hits);
 }
 
-/// Asserts the hits of a query in a sentence, found by the query, by its searcher, and by the matcher in the tables of
-/// both.
+/// Asserts the hits in a sentence, found by the query, by its searcher, and by the matcher in the tables of both.
 fn assert_finds<T: Text>(
     rt: &impl Abort,
     alloc: Global,
-    query: &Query,
-    searcher: &mut Searcher<'_>,
+    asked: &mut Asked<'_>,
     sentence: &BlockOf<T>,
     strategy: Strategy,
     hits: &[(u32, u32)],
 ) {
-    assert_hits(rt, alloc, query, searcher, sentence, strategy, hits);
-    assert_tables(rt, alloc, query, searcher, sentence, strategy, hits);
+    let case = Case {
+        sentence,
+        strategy,
+        hits,
+    };
+    assert_hits(rt, alloc, asked, &case);
+    by_tables(rt, alloc, asked, &case);
 }
 
 /// A sentence without words has no hit.
-fn assert_none(rt: &impl Abort, alloc: Global, query: &Query, searcher: &mut Searcher<'_>) {
+fn assert_none(rt: &impl Abort, alloc: Global, asked: &mut Asked<'_>) {
     let empty = BlockRef {
         comments: Vec::new(alloc),
         rows: Vec::new(alloc),
     };
-    assert_finds(rt, alloc, query, searcher, &empty, Strategy::Shortest, &[]);
-    assert_finds(rt, alloc, query, searcher, &empty, Strategy::Longest, &[]);
-    assert_finds(rt, alloc, query, searcher, &empty, Strategy::Every, &[]);
+    assert_finds(rt, alloc, asked, &empty, Strategy::Shortest, &[]);
+    assert_finds(rt, alloc, asked, &empty, Strategy::Longest, &[]);
+    assert_finds(rt, alloc, asked, &empty, Strategy::Every, &[]);
 }
 
 /// The hits in the sentence of the boat, by each strategy.
-fn assert_boat<T: Text>(
-    rt: &impl Abort,
-    alloc: Global,
-    query: &Query,
-    searcher: &mut Searcher<'_>,
-    boat: &BlockOf<T>,
-) {
+fn assert_boat<T: Text>(rt: &impl Abort, alloc: Global, asked: &mut Asked<'_>, boat: &BlockOf<T>) {
     let hits = [(3, 4), (5, 6)];
-    assert_finds(rt, alloc, query, searcher, boat, Strategy::Shortest, &hits);
+    assert_finds(rt, alloc, asked, boat, Strategy::Shortest, &hits);
     let hits = [(1, 4), (5, 6)];
-    assert_finds(rt, alloc, query, searcher, boat, Strategy::Longest, &hits);
+    assert_finds(rt, alloc, asked, boat, Strategy::Longest, &hits);
     let hits = [(1, 4), (2, 4), (3, 4), (5, 6)];
-    assert_finds(rt, alloc, query, searcher, boat, Strategy::Every, &hits);
+    assert_finds(rt, alloc, asked, boat, Strategy::Every, &hits);
 }
 
 /// The same in a borrowed sentence and in an owned copy.
-fn assert_boats(rt: &impl Abort, alloc: Global, query: &Query, searcher: &mut Searcher<'_>) {
+fn assert_boats(rt: &impl Abort, alloc: Global, asked: &mut Asked<'_>) {
     let boats = sentences_of(rt, alloc, BOAT);
     assert_same(rt, &boats.len(), &1, "the sentences");
     let boat = boats.first().expect(rt, "a sentence");
     let owned = own_block(alloc, boat).expect(rt, "error");
-    assert_boat(rt, alloc, query, searcher, boat);
-    assert_boat(rt, alloc, query, searcher, &owned);
+    assert_boat(rt, alloc, asked, boat);
+    assert_boat(rt, alloc, asked, &owned);
 }
 
 /// Adjectives and a noun, by one searcher.
 #[test]
 fn sentences_are_searched(rt: HostRuntime) {
     let query = query_of(&rt, rt.alloc(), r#"[upos="ADJ"]* [upos="NOUN"]"#);
-    let mut searcher = query.searcher(rt.alloc()).expect(&rt, "error");
-    assert_boats(&rt, rt.alloc(), &query, &mut searcher);
-    assert_none(&rt, rt.alloc(), &query, &mut searcher);
+    let mut asked = Asked {
+        query: &query,
+        searcher: query.searcher(rt.alloc()).expect(&rt, "error"),
+    };
+    assert_boats(&rt, rt.alloc(), &mut asked);
+    assert_none(&rt, rt.alloc(), &mut asked);
 }
 
 /// Asserts that the expression asks for the lemma `dog`.
