@@ -6,3 +6,4 @@ pub mod Inputs
 pub mod Read
 pub mod Replies
 pub mod Reports
+pub mod Wanting

@@ -38,13 +38,13 @@ module _ {Why : Type 0} (is_failure : Why → Type 0) (limit : ℕ) (old new : O
   whole_reply bytes Device taken end is = absurd is
 
   pub read_reply : (i : Input) (r : CheckReply) → IsInput is_failure limit old new i → IsReplyToInput limit i r → IsReplyToRead is_failure limit old new r
-  read_reply (input.Whole bytes) r h is = whole_reply bytes.items r h.0 h.1 is
+  read_reply (input.Whole bytes) r h is = whole_reply bytes.items r h.0 h.1 is.0
   read_reply input.TooLong r h is = subst (IsReplyToRead is_failure limit old new) (sym is) (more_than limit old new h.0 (omega (arith, h.2)) h.1)
   read_reply input.Memory r h is = subst (IsReplyToRead is_failure limit old new) (sym is) (more_than 0 old new h.0 h.2.0 h.1)
   read_reply input.Broken r h is = subst (IsReplyToRead is_failure limit old new) (sym is) h
 
-  pub taken_reply : (r : CheckReply) → IsReplyToTaken is_failure limit old new r → IsReplyToRead is_failure limit old new r
-  taken_reply r (came, h, is) = read_reply came r h is
+  pub taken_reply : (given gives : Option (List (List ℕ))) (r : CheckReply) → IsReplyToTaken is_failure limit old new given gives r → IsReplyToRead is_failure limit old new r
+  taken_reply given gives r (came, h, asked, is) = read_reply came r h is
 
 -- over bytes that never fail
 module _ {Why : Type 0} (is_failure : Why → Type 0) (never : (why : Why) → is_failure why → ⊥) (limit : ℕ) (bytes : List ℕ) (left : Option (List ℕ)) where
@@ -56,7 +56,7 @@ module _ {Why : Type 0} (is_failure : Why → Type 0) (never : (why : Why) → i
   sure_reply Memory h = h
   sure_reply Device h = absurd (never h.0.0 h.0.1)
 
-  pub sure_answer : {Reason : Type 0} (old new : Option (List ℕ)) (is_refusal : Reason → Type 0) (status : ℕ) → Answers (IsReplyToTaken is_failure limit (Some bytes) left) old new is_refusal status
-      → Answers (IsReplyTo limit bytes) old new is_refusal status
-  sure_answer old new is_refusal status (reply, known, written) =
-      (reply, sure_reply reply (taken_reply is_failure limit (Some bytes) left reply known), written)
+  pub sure_answer : {Reason : Type 0} (given gives : Option (List (List ℕ))) (old new : Option (List ℕ)) (is_refusal : Reason → Type 0) (status : ℕ)
+      → Answers (IsReplyToTaken is_failure limit (Some bytes) left given gives) old new is_refusal status → Answers (IsReplyTo limit bytes) old new is_refusal status
+  sure_answer given gives old new is_refusal status (reply, known, written) =
+      (reply, sure_reply reply (taken_reply is_failure limit (Some bytes) left given gives reply known), written)

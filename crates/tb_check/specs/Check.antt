@@ -4,6 +4,7 @@ use Rattle.std.specs.Prelude.{Bool, true, false, Option, IfSome, MatchOption}
 use Rattle.std.specs.List.{sum_by}
 use Rattle.std.specs.Option.{option_map_or}
 use Rattle.std.specs.Io.KnownBytes.{Appends}
+use Rattle.tb_conllu.specs.Fault.{MayWantMemory}
 use Rattle.tb_conllu.specs.Sunk.{AppendsPart}
 use Rattle.tb_conllu.specs.Text.{BlockText}
 use Rattle.tb_conllu.specs.Reported.{IsFile, IsReported}
@@ -14,7 +15,7 @@ use Rattle.tb_rules.specs.File.{IsValid, IsFaultAt, IsCutShort, HasTaken}
 use Rattle.tb_rules.specs.declared.filefault.FileFault.{FileFault}
 use Rattle.tb_rules.specs.declared.filefault.FileFault.TheVariants.{At}
 use Rattle.tb_rules.specs.declared.filefault.FileFault.TheVariants as rules
-use Rattle.tb_check.specs.Input.{IsBrokenWithin, IsInput}
+use Rattle.tb_check.specs.Input.{IsAskedFor, IsBrokenWithin, IsInput}
 use Rattle.tb_check.specs.declared.check.Survey.{Survey}
 use Rattle.tb_check.specs.declared.input.Input.{Input}
 use Rattle.tb_check.specs.declared.input.Input.TheVariants.{Whole}
@@ -119,15 +120,19 @@ abbrev pub IsReplyToRead : {Why : Type 0} → (Why → Type 0) → ℕ → Optio
 IsReplyToRead is_failure limit old new Device = IsBrokenWithin is_failure limit old new
 IsReplyToRead is_failure limit old new reply = IfSome old (λ bytes. IsReplyTo limit bytes reply)
 
--- The reply to what was read of an input: true of the whole input, or why that did not come.
+-- The reply to what was read of an input: true of the whole input, or why that did not come. The check of a whole input
+-- wants memory only where it may.
 abbrev pub IsReplyToInput : ℕ → Input → CheckReply → Type 0
-IsReplyToInput limit (Whole bytes) reply = IsReplyTo limit bytes.items reply
+IsReplyToInput limit (Whole bytes) reply =
+    IsReplyTo limit bytes.items reply × (reply ≡ Memory → MayWantMemory bytes.items)
 IsReplyToInput limit input.TooLong reply = reply ≡ Long
 IsReplyToInput limit input.Memory reply = reply ≡ Memory
 IsReplyToInput limit input.Broken reply = reply ≡ Device
 
--- The reply to an input that was read: true of its bytes, or why they did not come. No more of it is taken.
+-- The reply to an input that was read: true of its bytes, or why they did not come. No more of it is taken. Where the
+-- pieces that the source gives are counted, no read comes after its end.
 abbrev pub IsReplyToTaken : {Why : Type 0} → (is_failure : Why → Type 0) → (limit : ℕ)
-    → (unread left : Option (List ℕ)) → CheckReply → Type 0
-IsReplyToTaken is_failure limit unread left reply =
-    (came : Input) × IsInput is_failure limit unread left came × IsReplyToInput limit came reply
+    → (unread left : Option (List ℕ)) → (given gives : Option (List (List ℕ))) → CheckReply → Type 0
+IsReplyToTaken is_failure limit unread left given gives reply =
+    (came : Input) × IsInput is_failure limit unread left came × IsAskedFor limit given gives came
+    × IsReplyToInput limit came reply

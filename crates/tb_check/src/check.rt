@@ -2,12 +2,14 @@
 
 ghost use Rattle.std.specs.Prelude.{◌≡◌, ◌<◌, ◌≤◌, ◌^◌, ℕ, List, [], ◌∷◌, ◌++◌, length, IfOk};
 ghost use Rattle.std.specs.Prelude.{IfErr, IsSome};
-ghost use Rattle.tb_conllu.specs.Fault.{IsReadFault};
+ghost use Rattle.tb_conllu.specs.Fault.{IsReadFault, MayWantMemory};
 ghost use Rattle.tb_conllu.specs.Text.{BlockText};
 ghost use Rattle.tb_conllu.specs.Reported.{IsFile};
+ghost use Rattle.tb_conllu.specs.declared.fault.ReadFault.TheVariants as read;
 ghost use Rattle.tb_check.specs.Check.{Answers, IsAsked, IsReplyTo, IsReplyToInput, IsReplyToTaken, IsSurvey};
 ghost use Rattle.tb_check.specs.Check.{file_limit, reply_for};
 ghost use Rattle.tb_check.specs.Input.{IsWithin};
+ghost use Rattle.tb_check.specs.declared.reply.CheckReply.TheVariants.{Memory};
 
 use crate::input::{Input, read_all};
 use crate::output::put_reply;
@@ -92,6 +94,7 @@ fn ask<T: Text>(
 pub fn survey_file(alloc: Global, file: &[u8]) -> Result<Survey, ReadFault>
     ensures found { IfOk result (λ s. (bs : List BlockText) × IsFile file.now bs × IsSurvey bs s) }
     ensures fault { IfErr result (IsReadFault file.now) }
+    ensures memory { IfErr result (λ e. e ≡ read.Memory → MayWantMemory file.now) }
 {
     // law: a fault of the rest is the file's
     fault_after_sentences();
@@ -127,6 +130,7 @@ fn reply_for(fault: ReadFault) -> CheckReply
 pub fn check_file(alloc: Global, file: &[u8], limit: u64) -> CheckReply
     requires { length file.now ≤ limit }
     ensures reply { IsReplyTo limit file.now result }
+    ensures memory { result ≡ Memory → MayWantMemory file.now }
 {
     match survey_file(alloc, file) {
         Ok(found) => found.reply(),
@@ -150,7 +154,8 @@ pub fn check_input(alloc: Global, input: &Input, limit: u64) -> CheckReply
 /// The reply of the check for a source.
 fn check_source<R: Source>(alloc: Global, source: &mut R, limit: u64) -> CheckReply
     requires { limit < 2 ^ 32 }
-    ensures { IsReplyToTaken (R.IsFailure source.new) limit (R.left source.old) (R.left source.new) result }
+    ensures { IsReplyToTaken (R.IsFailure source.new) limit (R.left source.old) (R.left source.new)
+        (R.pieces source.old) (R.pieces source.new) result }
 {
     let input = read_all(alloc, source, limit);
     check_input(alloc, &input, limit)
@@ -168,8 +173,8 @@ pub fn check_within<R: Source, S: Sink>(
     limit: u64,
 ) -> u8
     requires { limit < 2 ^ 32 }
-    ensures { Answers (IsReplyToTaken (R.IsFailure source.new) limit (R.left source.old) (R.left source.new))
-        (S.held out.old) (S.held out.new) (S.IsRefusal out.new) result }
+    ensures { Answers (IsReplyToTaken (R.IsFailure source.new) limit (R.left source.old) (R.left source.new)
+        (R.pieces source.old) (R.pieces source.new)) (S.held out.old) (S.held out.new) (S.IsRefusal out.new) result }
 {
     let reply = check_source(alloc, source, limit);
     put_reply(out, reply.line().as_str(), reply.status())
@@ -177,8 +182,8 @@ pub fn check_within<R: Source, S: Sink>(
 
 /// Checks what the source gives, up to 4,194,304 bytes, writes the reply, and returns the exit status.
 pub fn run_check<R: Source, S: Sink>(alloc: Global, source: &mut R, out: &mut S) -> u8
-    ensures { Answers (IsReplyToTaken (R.IsFailure source.new) file_limit (R.left source.old) (R.left source.new))
-        (S.held out.old) (S.held out.new) (S.IsRefusal out.new) result }
+    ensures { Answers (IsReplyToTaken (R.IsFailure source.new) file_limit (R.left source.old) (R.left source.new)
+        (R.pieces source.old) (R.pieces source.new)) (S.held out.old) (S.held out.new) (S.IsRefusal out.new) result }
 {
     check_within(alloc, source, out, FILE_LIMIT)
 }

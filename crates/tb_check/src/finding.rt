@@ -1,10 +1,11 @@
 //! Finds the faults of a file.
 
 ghost use Rattle.std.specs.Prelude.{◌≡◌, ◌<◌, ◌++◌, [], IfErr, IfOk, IsOk, List, OnOk, length, map, take};
-ghost use Rattle.tb_conllu.specs.Fault.{IsReadFault};
+ghost use Rattle.tb_conllu.specs.Fault.{IsReadFault, MayWantMemory};
 ghost use Rattle.tb_conllu.specs.FaultyLines.{AreFaultyLines};
 ghost use Rattle.tb_conllu.specs.Reported.{IsFile};
 ghost use Rattle.tb_conllu.specs.Text.{BlockText};
+ghost use Rattle.tb_conllu.specs.declared.fault.ReadFault.TheVariants.{Memory};
 ghost use Rattle.tb_conllu.specs.declared.faulty.FaultyLine.{FaultyLine};
 ghost use Rattle.tb_check.specs.Faults.{AreFaults, AreSentenceFaults, at_line, in_sentence};
 ghost use Rattle.tb_check.specs.declared.fault.Fault.{Fault};
@@ -75,6 +76,7 @@ fn sentence_faults(alloc: Global, bytes: &[u8], most: usize) -> Result<Vec<Fault
     ensures found { IfOk result (λ v. (bs : List BlockText) × (all : List Fault) × IsFile bytes.now bs
         × AreSentenceFaults [] bs all × (v.items ≡ take most all)) }
     ensures fault { IfErr result (IsReadFault bytes.now) }
+    ensures memory { IfErr result (λ e. e ≡ Memory → MayWantMemory bytes.now) }
 {
     // law: what was read is the first part of the file, and a fault of the rest is the file's
     a_file_is_read_in_order();

@@ -35,8 +35,9 @@ pub fn one_reply_is_true()
 /// The reply to what was taken of an input is true of the whole input, where it is known, and is a failed device only
 /// where the source failed.
 pub fn the_reply_to_what_is_taken_is_true<R: Source>()
-    ensures { (source : R) (limit : ℕ) (unread left : Option (List ℕ)) (reply : CheckReply)
-        → IsReplyToTaken (R.IsFailure source) limit unread left reply
+    ensures { (source : R) (limit : ℕ) (unread left : Option (List ℕ)) (given gives : Option (List (List ℕ)))
+        (reply : CheckReply)
+        → IsReplyToTaken (R.IsFailure source) limit unread left given gives reply
         → IsReplyToRead (R.IsFailure source) limit unread left reply }
 {}
 

@@ -1,4 +1,3 @@
--- Between crates: no contract of a front door cites a definition of this module.
 -- Bytes that need a second test.
 use Rattle.std.specs.Prelude.{ℕ, Bool, ◌&&◌, not, nat_le, nat_lt, ◌==◌}
 use Rattle.tb_chars.specs.Spaces.{begins_white}

@@ -204,6 +204,7 @@ impl<'a> Sentences<'a> {
         ensures left { IfErr result (IsFaultAfter self.new.line self.new.rest) }
         ensures first { IfErr result (λ e. e ≢ Memory → BeginsNoSentence self.new.rest) }
         ensures memory { IfErr result (λ e. e ≡ Memory → MayWantMemory self.old.rest) }
+        ensures sure { IfErr result (λ e. e ≡ Memory → MayWantMemory self.new.rest) }
     {
         while let Some(block) = self.read_next(alloc)? {
             drop(block);

@@ -1,9 +1,15 @@
 -- Cells of a table of truths, after one of them is made true.
-use Rattle.std.proofs.Common.{◌≡◌, ◌+◌, ◌-◌, ◌*◌, ◌<◌, ◌≤◌, ◌≢◌, ◌↔◌, ◌⊎◌, ℕ, List, Bool, true, false, length, get_or, set, arith, sym, ◌∙◌, ap, inl, inr, ⊎_elim}
+use Rattle.std.proofs.Common.{◌≡◌, ◌+◌, ◌-◌, ◌*◌, ◌<◌, ◌≤◌, ◌≢◌, ◌↔◌, ◌⊎◌, ℕ, zero, suc, List, Bool, true, false, length, get_or, set, replicate, arith, refl, sym, ◌∙◌, ap, inl, inr, ⊎_elim}
 use Rattle.std.proofs.lemmas.Bool.{cases_order, cases_eq}
 use Rattle.std.proofs.lemmas.List.{get_or-set_same, get_or-set_other}
 use Rattle.std.proofs.lemmas.Nat.{mul-add-lt}
 use Rattle.std.proofs.Math.Nat.{mul-le-mul_right}
+
+-- no cell is set
+pub unset : (n i : ℕ) → get_or (replicate n false) i false ≡ false
+unset zero i = refl
+unset (suc n) zero = refl
+unset (suc n) (suc i) = unset n i
 
 -- two words of two expressions have two cells
 apart : (n e x a b : ℕ) → a < n → b < n → x * n + b ≡ e * n + a → (x ≡ e) × (b ≡ a)

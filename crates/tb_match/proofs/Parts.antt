@@ -1,14 +1,16 @@
 -- The tree that a pattern in memory stands for, by its variants, and the parts of a pattern one after the other.
-use Rattle.std.proofs.Common.{◌≡◌, ◌+◌, ◌<◌, ◌≤◌, ◌≢◌, ℕ, zero, suc, arith, Option, Some, None, List, [], ◌∷◌, Vec, Box, Global, length, get_or, drop, sym, ap, ◌∙◌}
+use Rattle.std.proofs.Common.{◌≡◌, ◌+◌, ◌<◌, ◌≤◌, ◌≢◌, ℕ, zero, suc, arith, Option, Some, None, List, [], ◌∷◌, Bool, true, false, not, refl, inl, inr, Vec, Box, Global, length, get_or, drop, sym, ap, ◌∙◌}
 use Rattle.std.proofs.lemmas.List.{at_drop_more}
+use Rattle.std.proofs.lemmas.Bool.{false≢true, true≢false}
+use Rattle.std.proofs.Math.Bool.{beq}
 use Rattle.tb_match.specs.declared.pattern.Pat.{Pat, Tok, Cat, Alt, Rep}
 use Rattle.tb_match.specs.declared.pattern.Pat.TheOpen.{Pat-F}
 use Rattle.tb_match.specs.declared.pattern.Pat.TheFolds.{fold-roll-Pat}
 use Rattle.tb_match.specs.declared.pattern.Pat.TheVariants.{rolls-Tok, rolls-Cat, rolls-Alt, rolls-Rep}
 use Rattle.tb_match.specs.Facts.{Facts}
-use Rattle.tb_match.specs.Match.{EachInTurn, Match}
-use Rattle.tb_match.specs.Possible.{AllMayMatch}
-use Rattle.tb_match.specs.Trees.{Tree, Forest, tok, cat, alt, rep, tree, tree_step, trees}
+use Rattle.tb_match.specs.Match.{Match}
+use Rattle.tb_match.specs.Possible.{AllMayMatch, MayMatch, PartsMatch, PartsMayMatch}
+use Rattle.tb_match.specs.Trees.{Tree, Forest, and_more, tok, cat, alt, rep, tree, tree_step, trees}
 use Rattle.tb_match.specs.Weight.{turns, weight_of_all}
 
 module _ (p : Pat) where
@@ -28,13 +30,6 @@ module _ (p : Pat) where
 module _ (ps : List Pat) (k : ℕ) (p : Pat) (inside : k < length ps) (at : p ≡ get_or ps k p) where
   pub next_part : {Y : Type 0} → (F : Forest → Y) → F (trees (drop k ps)) ≡ F (trees (p ∷ drop (k + 1) ps))
   next_part F = at_drop_more (λ qs. F (trees qs)) ps k p inside ∙ ap (λ q. F (trees (q ∷ drop (k + 1) ps))) (sym at)
-
--- where all match one after the other, so do those from an index on
-pub each_from : (H : ℕ → ℕ → Type 0) (ps : List Pat) (k i j : ℕ) → EachInTurn H (trees ps) i j → (m : ℕ) × EachInTurn H (trees (drop k ps)) m j
-each_from H [] zero i j e = (i, e)
-each_from H [] (suc k) i j e = (i, e)
-each_from H (p ∷ ps) zero i j e = (i, e)
-each_from H (p ∷ ps) (suc k) i j (m, x, rest) = each_from H ps k m j rest
 
 -- a repetition that must have a link has a first one
 pub first_link : (H : ℕ → ℕ → Type 0) (p : Tree) (a : ℕ) (b : Option ℕ) (i j : ℕ) → a ≢ 0 → Match H (rep p a b) i j → (m : ℕ) × Match H p i m
@@ -57,3 +52,40 @@ none_left t [] zero le = tt
 none_left t [] (suc k) le = tt
 none_left t (p ∷ ps) zero le = absurd (omega (arith, le))
 none_left t (p ∷ ps) (suc k) le = none_left t ps k (omega (arith, le))
+
+-- ---- all of the parts, or some one part: one that does not decide, one that does, and none that is left
+
+module _ (t : Facts) (p : Tree) (left : Forest) where
+  pub on_may : (all may : Bool) → not (beq may all) ≡ false → (may ≡ true → MayMatch t p) → PartsMayMatch all t left → PartsMayMatch all t (and_more p left)
+  on_may true true same known rest = (known refl, rest)
+  on_may true false same known rest = absurd (true≢false same)
+  on_may false true same known rest = absurd (true≢false same)
+  on_may false false same known rest = inr rest
+
+  pub decided_may : (all may : Bool) → not (beq may all) ≡ true → may ≡ true → MayMatch t p → PartsMayMatch all t (and_more p left)
+  decided_may true true other is known = absurd (false≢true other)
+  decided_may true false other is known = absurd (false≢true is)
+  decided_may false may other is known = inl known
+
+module _ (H : ℕ → ℕ → Type 0) (p : Tree) (left : Forest) where
+  pub on_match : (all may : Bool) → not (beq may all) ≡ false → (may ≡ false → (i j : ℕ) → Match H p i j → ⊥) → (i j : ℕ) → PartsMatch all H (and_more p left) i j → (m : ℕ) × PartsMatch all H left m j
+  on_match true may same none i j (m, here, rest) = (m, rest)
+  on_match false true same none i j h = absurd (true≢false same)
+  on_match false false same none i j (inl here) = absurd (none refl i j here)
+  on_match false false same none i j (inr rest) = (i, rest)
+
+  pub decided_none : (all may : Bool) → not (beq may all) ≡ true → may ≡ false → ((i j : ℕ) → Match H p i j → ⊥) → (i j : ℕ) → PartsMatch all H (and_more p left) i j → ⊥
+  decided_none true may other is none i j (m, here, rest) = none i m here
+  decided_none false true other is none i j h = absurd (true≢false is)
+  decided_none false false other is none i j h = absurd (false≢true other)
+
+pub all_left : (t : Facts) (ps : List Pat) (k : ℕ) (all : Bool) → all ≡ true → length ps ≤ k → PartsMayMatch all t (trees (drop k ps))
+all_left t ps k true is le = none_left t ps k le
+all_left t ps k false is le = absurd (false≢true is)
+
+pub no_part_left : (H : ℕ → ℕ → Type 0) (ps : List Pat) (k : ℕ) (all : Bool) → all ≡ false → length ps ≤ k → (i j : ℕ) → PartsMatch all H (trees (drop k ps)) i j → ⊥
+no_part_left H ps k true is le i j h = absurd (true≢false is)
+no_part_left H [] zero false is le i j h = h
+no_part_left H [] (suc k) false is le i j h = h
+no_part_left H (p ∷ ps) zero false is le i j h = absurd (omega (arith, le))
+no_part_left H (p ∷ ps) (suc k) false is le i j h = no_part_left H ps k false is (omega (arith, le)) i j h

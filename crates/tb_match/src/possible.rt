@@ -2,42 +2,29 @@
 
 ghost use Rattle.std.specs.Prelude.{◌≡◌, ℕ, IsTrue, false};
 ghost use Rattle.tb_match.specs.Facts.{Holds};
-ghost use Rattle.tb_match.specs.Match.{AnyOf, EachInTurn, Match};
-ghost use Rattle.tb_match.specs.Possible.{AllMayMatch, AnyMayMatch, MayMatch};
+ghost use Rattle.tb_match.specs.Match.{Match};
+ghost use Rattle.tb_match.specs.Possible.{MayMatch, PartsMatch, PartsMayMatch};
 ghost use Rattle.tb_match.specs.Trees.{tree, trees};
 ghost use Rattle.tb_match.specs.Weight.{AllProper, IsProper};
 
 use crate::pattern::Pat;
 use crate::truth::Truth;
 
-/// Whether each of the parts may match. False only where one of them matches nowhere.
+/// Whether all of the parts may match, or, where any of them is enough, whether one may. False only where no match has
+/// them.
 #[cycle(can_match)]
-fn can_all_match(parts: &[Pat], truth: &Truth) -> bool
+fn can_parts_match(parts: &[Pat], truth: &Truth, all: bool) -> bool
     requires { AllProper truth.now.exprs (trees parts.now) }
-    ensures yes { IsTrue result → AllMayMatch truth.now (trees parts.now) }
-    ensures no { result ≡ false → (i j : ℕ) → EachInTurn (Holds truth.now) (trees parts.now) i j → ⊥ }
+    ensures yes { IsTrue result → PartsMayMatch all truth.now (trees parts.now) }
+    ensures no { result ≡ false → (i j : ℕ) → PartsMatch all (Holds truth.now) (trees parts.now) i j → ⊥ }
 {
     for part in parts {
-        if !can_match(part, truth) {
-            return false;
+        let may = can_match(part, truth);
+        if may != all {
+            return may;
         }
     }
-    true
-}
-
-/// Whether one of the parts may match. False only where each of them matches nowhere.
-#[cycle(can_match)]
-fn can_any_match(parts: &[Pat], truth: &Truth) -> bool
-    requires { AllProper truth.now.exprs (trees parts.now) }
-    ensures yes { IsTrue result → AnyMayMatch truth.now (trees parts.now) }
-    ensures no { result ≡ false → (i j : ℕ) → AnyOf (Holds truth.now) (trees parts.now) i j → ⊥ }
-{
-    for part in parts {
-        if can_match(part, truth) {
-            return true;
-        }
-    }
-    false
+    all
 }
 
 /// Whether each expression that all matches need holds of some word. False only where the pattern matches nowhere.
@@ -49,8 +36,8 @@ pub(crate) fn can_match(pat: &Pat, truth: &Truth) -> bool
 {
     match pat {
         Pat::Tok(expr) => truth.holds_somewhere(*expr),
-        Pat::Cat(parts) => can_all_match(parts, truth),
-        Pat::Alt(parts) => can_any_match(parts, truth),
+        Pat::Cat(parts) => can_parts_match(parts, truth, true),
+        Pat::Alt(parts) => can_parts_match(parts, truth, false),
         Pat::Rep(inner, least, _) => *least == 0 || can_match(inner, truth),
     }
 }

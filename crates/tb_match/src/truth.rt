@@ -1,6 +1,7 @@
 //! Which expressions hold of which words.
 
-ghost use Rattle.std.specs.Prelude.{◌≡◌, ◌+◌, ◌-◌, ◌*◌, ◌<◌, ◌≤◌, ◌↔◌, ◌⊎◌, ℕ, IfOk, IsTrue, vec_len};
+ghost use Rattle.std.specs.Prelude.{◌≡◌, ◌+◌, ◌-◌, ◌*◌, ◌<◌, ◌≤◌, ◌↔◌, ◌⊎◌, ℕ, IfOk, IsOk, IsTrue, vec_len};
+ghost use Rattle.std.specs.Prelude.{false, slice_index_or};
 ghost use Rattle.tb_match.specs.Facts.{Facts, Holds};
 
 use std::alloc::{AllocError, Global};
@@ -22,6 +23,18 @@ impl Model for Truth {
     ghost invariant = { λ t. (vec_len t.cells ≡ t.exprs * t.words) × (t.words ≤ 1000) × (t.exprs ≤ 32) };
 }
 
+/// So many cells, of which none is set. No cells take no memory.
+fn no_cells(alloc: Global, count: usize) -> Result<Vec<bool>, AllocError>
+    ensures len { IfOk result (λ v. vec_len v ≡ count) }
+    ensures none { IfOk result (λ v. (i : ℕ) → slice_index_or v.items i false ≡ false) }
+    ensures sure { count ≡ 0 → IsOk result }
+{
+    if count == 0 {
+        return Ok(Vec::new(alloc));
+    }
+    Ok(Vec::from_elem(alloc, false, count)?)
+}
+
 impl Truth {
     /// A table in which no expression holds of any word.
     pub fn new(alloc: Global, words: usize, exprs: u16) -> Result<Truth, AllocError>
@@ -30,8 +43,9 @@ impl Truth {
         ensures words { IfOk result (λ t. t.words ≡ words) }
         ensures exprs { IfOk result (λ t. t.exprs ≡ exprs) }
         ensures none { IfOk result (λ t. (e w : ℕ) → Holds t e w → ⊥) }
+        ensures sure { exprs * words ≡ 0 → IsOk result }
     {
-        let cells = Vec::from_elem(alloc, false, exprs as usize * words)?;
+        let cells = no_cells(alloc, exprs as usize * words)?;
         Ok(Truth {
             words,
             exprs,

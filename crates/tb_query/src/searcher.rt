@@ -1,6 +1,6 @@
 //! A query that is prepared for a search.
 
-ghost use Rattle.std.specs.Prelude.{◌≡◌, ◌+◌, ◌*◌, ◌/◌, ◌≤◌, IfOk, map};
+ghost use Rattle.std.specs.Prelude.{◌≡◌, ◌+◌, ◌*◌, ◌/◌, ◌≤◌, IfOk, IsOk, length, map};
 ghost use Rattle.tb_conllu.specs.Words.{words_of};
 ghost use Rattle.tb_match.specs.Trees.{tree};
 ghost use Rattle.tb_match.specs.Weight.{weight_of};
@@ -61,6 +61,7 @@ impl<'q> Searcher<'q> {
     pub fn truth<T: Text>(&mut self, alloc: Global, block: &BlockOf<T>) -> Result<Truth, AllocError>
         requires { words_of block.now ≤ 1000 }
         ensures truth { IfOk result (λ t. IsTruthOf self.old.tests block.now t) }
+        ensures sure { length self.old.tests * words_of block.now ≡ 0 → IsOk result }
         ensures unchanged { self.new ≡ self.old }
     {
         let exprs = self.prepared_exprs.len() as u16;

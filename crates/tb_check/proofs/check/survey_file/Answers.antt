@@ -1,11 +1,18 @@
 use Rattle.std.proofs.Common.{rules, [], ◌∷◌, ◌++◌, arith}
+use Rattle.std.proofs.lemmas.Result.{err_from_is_err_and}
 use Rattle.tb_check.proofs.Counted.{counted_none, counted_next, counted_room, counted_smaller, counted_fault}
+use Rattle.tb_check.proofs.Wanting.{counted_wants}
 use Rattle.tb_check.proofs.check.survey_file.Goals as goal
 
 pub returns-in_err-block-clause-fault : goal.returns-in_err-block-clause-fault
 returns-in_err-block-clause-fault c =
     let fault = counted_fault c.fault_after_sentences.ensures c.args.file.now c.loop-checker.unread _ _ c.loop-checker.invariant.0 c.in_err-block.field-0.0 c.loop-checker.invariant.1 c.in_err-block.ensures.fault.0 in
     search (rules, fault)
+
+pub returns-in_err-block-clause-memory : goal.returns-in_err-block-clause-memory
+returns-in_err-block-clause-memory c =
+    let p = err_from_is_err_and c.from_residual.result c.from_residual.ensures.1 in
+    rw (p.1, p.2) (counted_wants c.args.file.now c.loop-checker.unread _ _ c.loop-checker.invariant.0 c.in_err-block.field-0.0 c.loop-checker.invariant.1 c.in_err-block.ensures.memory)
 
 pub overflow_add-found : goal.overflow_add-found
 overflow_add-found c =

@@ -1,6 +1,7 @@
 use Rattle.std.proofs.Common.{List, [], ◌∷◌, ◌++◌, ◌+◌, ap, map, sym, take, ◌∙◌}
 use Rattle.std.proofs.Math.Seq.{take-nil}
 use Rattle.std.proofs.lemmas.Result.{err_from_is_err_and}
+use Rattle.tb_conllu.proofs.Shortage.{next_wants, rest_wants}
 use Rattle.tb_rules.specs.declared.breaking.BrokenRule.{BrokenRule}
 use Rattle.tb_check.specs.Faults.{in_sentence}
 use Rattle.tb_check.proofs.Found.{found_some, next_found, next_shorter, none_found}
@@ -58,3 +59,23 @@ returns-in_err-push_broken-clause-fault c =
     let all = c.loop-found.invariant.1 in
     let next = rw c.in-Some.is at c.in_ok-block.ensures.next in
     rw (p.1, p.2) (found_some c.args.bytes.now c.loop-found.unread c.read_next.new.self c.loop-found.sentence bs c.in-Some.block all c.loop-found.invariant.2 next)
+
+pub returns-in_err-block-clause-memory : goal.returns-in_err-block-clause-memory
+returns-in_err-block-clause-memory c =
+    let p = err_from_is_err_and c.from_residual.result c.from_residual.ensures.1 in
+    let read = c.loop-found.invariant.2.read in
+    rw (p.1, p.2) (λ memory. rest_wants c.args.bytes.now c.loop-found.invariant.0 c.loop-found.unread.rest read.shaped read.whole (c.in_err-block.ensures.memory memory))
+
+pub returns-in_err-broken-clause-memory : goal.returns-in_err-broken-clause-memory
+returns-in_err-broken-clause-memory c =
+    let p = err_from_is_err_and c.from_residual-in_err-broken.result c.from_residual-in_err-broken.ensures.1 in
+    let read = c.loop-found.invariant.2.read in
+    let next = next_wants c.loop-found.unread c.read_next.new.self c.in-Some.block (rw c.in-Some.is at c.in_ok-block.ensures.next) in
+    rw (p.1, p.2) (λ memory. rest_wants c.args.bytes.now c.loop-found.invariant.0 c.loop-found.unread.rest read.shaped read.whole next)
+
+pub returns-in_err-push_broken-clause-memory : goal.returns-in_err-push_broken-clause-memory
+returns-in_err-push_broken-clause-memory c =
+    let p = err_from_is_err_and c.from_residual-in_err-push_broken.result c.from_residual-in_err-push_broken.ensures.1 in
+    let read = c.loop-found.invariant.2.read in
+    let next = next_wants c.loop-found.unread c.read_next.new.self c.in-Some.block (rw c.in-Some.is at c.in_ok-block.ensures.next) in
+    rw (p.1, p.2) (λ memory. rest_wants c.args.bytes.now c.loop-found.invariant.0 c.loop-found.unread.rest read.shaped read.whole next)

@@ -1,4 +1,5 @@
-use Rattle.std.proofs.Common.{◌≡◌, ◌↔◌, List, length, map, filter, sym, ap, ◌∙◌, subst}
+use Rattle.std.proofs.Common.{◌≡◌, ◌↔◌, ◌*◌, ℕ, List, length, map, filter, sym, ap, ◌∙◌, subst}
+use Rattle.std.proofs.lemmas.Bool.{false≢true}
 use Rattle.std.proofs.lemmas.List.{length-map, with_items_is}
 use Rattle.std.proofs.lemmas.List.Sums.{length-filter}
 use Rattle.tb_conllu.specs.Text.{BlockText, RowText}
@@ -38,3 +39,11 @@ returns-clause-truth g c =
       λ e w. subst (λ (ts : List (Test PlainLit)). Holds truth e w ↔ HoldsOf ts (word_rows block) e w) tests
           (subst (λ (rs : List RowText). Holds truth e w ↔ HoldsOf (map asked c.deref_mut.result.now) (filter is_word rs) e w) rows (c.fill.ensures.held e w)),
     )
+
+pub returns-in_err-truth-clause-sure : goal.returns-in_err-truth-clause-sure
+returns-in_err-truth-clause-sure g c = λ none.
+    let prepared_exprs = c.self.inside.prepared_exprs in
+    let query = c.args.self.now in
+    let count : prepared_exprs.len ≡ length query.tests = prepared_exprs.ok.0 ∙ sym (length-map prepared_exprs.items asked) ∙ ap (λ (q : Asked). length q.tests) c.self.view_is in
+    let cells = ap (λ (n : ℕ). n * c.words.result) (c.len-exprs.ensures ∙ count) ∙ ap (λ (n : ℕ). length query.tests * n) c.words.ensures ∙ none in
+    absurd (false≢true (c.in_err-truth.ensures.sure cells))
