@@ -38,6 +38,7 @@ ordered d rs ps = record d { revisions = rs; pulled = ps }
 
 pub order_stands : (d : Tables) (rs : List Revision) (ps : List ℕ) (trees : Trees) → IsPermutation d.revisions rs → IsPermutation d.pulled ps → AreStored d trees → AreStored (ordered d rs ps) trees
 order_stands d rs ps trees a b h = record {
+  listed = h.listed;
   meta = h.meta;
   batches = h.batches;
   sentences = h.sentences;

@@ -24,14 +24,9 @@ pub fn number_of_state(state: State) -> u32
 pub fn state_numbered(number: u32) -> Option<State>
     ensures { (st : AnyState) → (result ≡ some_of st) ↔ (number ≡ state_number st) }
 {
-    match number {
-        1 => Some(State::Opened),
-        2 => Some(State::Assigned),
-        3 => Some(State::Submitted),
-        4 => Some(State::Adjudicated),
-        5 => Some(State::Released),
-        6 => Some(State::Withdrawn),
-        _ => None,
+    match state_before(number) {
+        Some(before) => before,
+        None => None,
     }
 }
 

@@ -7,7 +7,7 @@ ghost use Rattle.tb_core.specs.declared.kinds.State.TheVariants.{Withdrawn};
 ghost use Rattle.tb_core.specs.Names.{is_name};
 ghost use Rattle.tb_core.specs.Deciding.{event_decision, may_correct, pull_decision, restore_decision};
 ghost use Rattle.tb_replay.specs.Slots.{small};
-ghost use Rattle.tb_replay.specs.Playing.{entry_at, row_next, event_fits, event_test, one_expected, pull_fits};
+ghost use Rattle.tb_replay.specs.Playing.{entry_at, row_next, event_fits, event_test, is_expected, one_expected};
 ghost use Rattle.tb_replay.specs.Playing.{pull_test, restore_fits, fits_word, row_fits, first_counts, import_fits};
 ghost use Rattle.tb_replay.specs.Playing.{is_first_by, first_count, is_of_import};
 
@@ -101,16 +101,25 @@ fn of_one(count: u64, place: u64, mark: Mark, old: State, new: State, coming: u6
     }
 }
 
-fn pull_passes(count: u64, place: u64, mark: Mark, slot: &Slot<'_>, change: &Move) -> bool
+/// Whether a move of one sentence from one state to another may come next, where its batch allows it.
+fn passes_between(
+    count: u64,
+    place: u64,
+    mark: Mark,
+    ends: (State, State),
+    is_allowed: bool,
+    change: &Move,
+) -> bool
     requires counted { count + 1 < 2 ^ 64 }
     requires placed { place + 1 < 2 ^ 64 }
-    ensures { result ≡ pull_fits count place mark slot.now change.now }
+    ensures { result ≡ (is_name change.now.who && (is_allowed
+        && is_expected change.now (one_expected count place mark ends.0 ends.1 mark.words))) }
 {
     good_name(change.who.as_str())
-        && may_pull(slot.state, mark.pulled)
+        && is_allowed
         && is_as_expected(
             change,
-            of_one(count, place, mark, slot.state, State::Withdrawn, mark.words),
+            of_one(count, place, mark, ends.0, ends.1, mark.words),
         )
 }
 
@@ -125,7 +134,15 @@ pub fn is_pull(slots: &[Slot<'_>], marks: &[Mark], count: u64, change: &Move) ->
     }
     let mark = mark_of(marks, place);
     let slot = slot_of(slots, mark.batch.saturating_sub(1));
-    pull_passes(count, place, mark, &slot, change)
+    let is_allowed = may_pull(slot.state, mark.pulled);
+    passes_between(
+        count,
+        place,
+        mark,
+        (slot.state, State::Withdrawn),
+        is_allowed,
+        change,
+    )
 }
 
 /// Whether a restore of the sentence at a place may come next, where its batch has room for it.
@@ -134,12 +151,15 @@ pub fn restore_passes(count: u64, place: u64, mark: Mark, slot: &Slot<'_>, chang
     requires placed { place + 1 < 2 ^ 64 }
     ensures { result ≡ restore_fits count place mark slot.now change.now }
 {
-    good_name(change.who.as_str())
-        && may_restore(slot.state, mark.pulled)
-        && is_as_expected(
-            change,
-            of_one(count, place, mark, State::Withdrawn, slot.state, mark.words),
-        )
+    let is_allowed = may_restore(slot.state, mark.pulled);
+    passes_between(
+        count,
+        place,
+        mark,
+        (State::Withdrawn, slot.state),
+        is_allowed,
+        change,
+    )
 }
 
 /// Whether the sums of the batch stay below 2^64. Where rows are fine they always do, so no fact of them is needed.
@@ -147,26 +167,6 @@ pub fn has_restore_room(mark: Mark, slot: &Slot<'_>) -> bool
     ensures { result ≡ (fits_word (slot.now.sentences + 1) && fits_word (slot.now.words + mark.words)) }
 {
     fits_together(slot.sentences, 1) && fits_together(slot.words, mark.words)
-}
-
-fn row_passes(
-    count: u64,
-    place: u64,
-    mark: Mark,
-    slot: &Slot<'_>,
-    row: &Revision<'_>,
-    change: &Move,
-) -> bool
-    requires counted { count + 1 < 2 ^ 64 }
-    requires placed { place + 1 < 2 ^ 64 }
-    ensures { result ≡ row_fits count place mark slot.now row.now change.now }
-{
-    row.who == change.who.as_str()
-        && may_correct_now(mark.pulled, slot.state, slot.worker, change.who.as_str())
-        && is_as_expected(
-            change,
-            of_one(count, place, mark, slot.state, slot.state, row.words),
-        )
 }
 
 /// The row of the revision that comes next at a place.
@@ -202,7 +202,12 @@ pub fn correct_passes(
 {
     fits_together(slot.words, row.words)
         && good_name(change.who.as_str())
-        && row_passes(count, place, mark, slot, row, change)
+        && row.who == change.who.as_str()
+        && may_correct_now(mark.pulled, slot.state, slot.worker, change.who.as_str())
+        && is_as_expected(
+            change,
+            of_one(count, place, mark, slot.state, slot.state, row.words),
+        )
 }
 
 /// The entries of the sentences of an import.

@@ -13,7 +13,7 @@ use Rattle.tb_tables.specs.Changes.{IsInside}
 use Rattle.tb_tables.specs.Making.{IsBare, IsVersioned, empty_tables}
 use Rattle.tb_tables.proofs.Texts.{insert_version, insert_version_is, insert_version_terms, insert_totals, insert_totals_is, insert_totals_terms}
 use Rattle.tb_tables.proofs.Lists.{cast_int, cast_null, lower}
-use Rattle.tb_tables.proofs.Meaning.{no_index}
+use Rattle.tb_tables.proofs.Meaning.{desk_listed, no_index}
 use Rattle.tb_tables.proofs.Steps.{inserts}
 
 pub versioned : (old new : State) (count : ℕ) → IsBare old desk_schema → Executes insert_version [] old new (Ok count) → IsTrue new.in_transaction → IsVersioned new
@@ -64,6 +64,7 @@ filled old new count start h begun =
     let empty = start.empty in (
       record { begun = begun; schema = e.schema },
       record {
+        listed = desk_listed new.now w.sound e.schema;
         meta = subst (Shows meta_view (number_shown 2 ∷ [])) (sym (e.applies.others 0 (λ e. cc) (no_index 0 (λ e. cc) (λ e. cc) (λ e. cc)))) start.meta;
         batches = none_shown batch_view _ (kept 1 (λ e. cc) (λ e. cc) (λ e. cc) (λ e. cc) empty.0);
         sentences = none_shown sentence_view _ (kept 3 (λ e. cc) (λ e. cc) (λ e. cc) (λ e. cc) empty.1.0);

@@ -9,19 +9,47 @@ use Rattle.sqlite.specs.Edit.{edit_of, edited, put_all, IsNoIndex}
 use Rattle.sqlite.specs.Rowids.TheVariants.{Chosen, Given}
 use Rattle.sqlite.specs.State.{State, Executes}
 use Rattle.sqlite.specs.Tree.{Trees, put_row, without_rowid}
+use Rattle.sqlite_trees.specs.Objects.{catalog_tree}
+use Rattle.sqlite_trees.specs.Sound.{fits_kind, is_sound_list, is_sound_object}
+use Rattle.sqlite_catalog.specs.Listing.{Lists}
+use Rattle.sqlite_catalog.proofs.ReadLemmas.{lists_once}
+use Rattle.sqlite.specs.Effect.{Database, IsDatabase}
 use Rattle.sqlite.proofs.Callers.{runs_as, one_permutation}
 use Rattle.sqlite_rules.specs.Edit.{is_taken, are_fresh, next_rowid, without_all}
 use Rattle.sqlite_rules.specs.Calls.{ids_of}
 use Rattle.sqlite.specs.Term.{Term, eval_all}
 use Rattle.sqlite.specs.Query.{Query, inner, end, matches, IsAnswer, output, page, Output}
 use Rattle.sqlite.specs.Program.{overlay}
-use Rattle.tb_tables.specs.Layout.{desk_schema, batches, sentences, revisions, moves, totals, pulled}
+use Rattle.tb_tables.specs.Layout.{desk_schema, ListsDesk, batches, sentences, revisions, moves, totals, pulled}
 use Rattle.tb_tables.specs.Records.{Revision, Batch, Move, Sentence, Total, Tables, AreStored, Shows, numbered, batch_shown, sentence_shown, revision_shown, move_shown, total_shown, number_shown, meta_view, batch_view, sentence_view, revision_view, move_view, total_view, number_view}
 use Rattle.tb_tables.specs.Changes.{with_batch, with_sentence, with_revision, with_move, with_pulled}
 use Rattle.tb_tables.proofs.Texts.{simple, by_number, insert_batch, insert_batch_is, insert_batch_terms, insert_sentence, insert_sentence_is, insert_sentence_terms, insert_move, insert_move_is, insert_move_terms, insert_pulled, insert_pulled_is, insert_pulled_terms, insert_revision, insert_revision_is, insert_revision_terms, update_batch, update_batch_is, update_sentence, update_sentence_is, update_total, update_total_is, delete_pulled, delete_pulled_is, delete_pulled_terms}
 use Rattle.tb_tables.proofs.Lists.{cast_int, cast_null}
 use Rattle.tb_tables.proofs.Keyed.{put_shows, put_numbered, hits, hits_show, hit, one_hit, matched, matched_all, replaced_shows, removed_shows}
 use Rattle.tb_tables.proofs.Steps.{inserts, updates, deletes}
+
+-- a sound database with the schema of a desk lists no other
+pub desk_listed : (db : Database) → IsDatabase db → db.schema ≡ desk_schema → ListsDesk db.trees
+desk_listed db sound has schema lists = lists_once (db.trees catalog_tree) schema db.schema lists sound.lists ∙ has
+
+both : (a b : Bool) → (a && b) ≡ true → (a ≡ true) × (b ≡ true)
+both true b h = (refl, h)
+both false b h = absurd cc
+
+-- a row without columns is in no list
+unfit_row : fits_kind Null Null Null Null ≡ false
+unfolding fits_kind
+unfit_row = refl
+
+unsound_row : is_sound_list ([] ∷ []) ≡ true → ⊥
+unfolding is_sound_list
+unsound_row h =
+    let object : is_sound_object [] ≡ true = (both _ _ (both _ _ h).0).0 in
+    let fits : fits_kind Null Null Null Null ≡ true = (both _ _ (both _ _ object).0).1 in
+    absurd (let none = unfit_row in cc)
+
+pub no_list : (trees : Trees) → trees catalog_tree ≡ [] ∷ [] → ListsDesk trees
+no_list trees is schema lists = absurd (unsound_row (subst (λ objects. Lists objects schema) is lists).listed.loads)
 
 -- one table has these rows, and the others are as they were
 pub record Sets (old new : State) (tree : ℕ) (all : List Row) : Type 0 where
@@ -247,8 +275,13 @@ module _ (old new : State) (tree : ℕ) (rows : List Row) (s : Sets old new tree
   pub same_table : (view : Row → Row) (shown : List Row) (t : ℕ) → t ≢ tree → 2 ≢ t → 4 ≢ t → 6 ≢ t → Shows view shown (old.now.trees t) → Shows view shown (new.now.trees t)
   same_table view shown t apart a b c same = subst (Shows view shown) (sym (s.others t apart (no_index t a b c))) same
 
+  -- and the list of objects is as it was
+  pub same_list : catalog_tree ≢ tree → ListsDesk old.now.trees → ListsDesk new.now.trees
+  same_list apart listed schema lists = listed schema (subst (λ objects. Lists objects schema) (s.others catalog_tree apart (no_index catalog_tree (λ e. cc) (λ e. cc) (λ e. cc))) lists)
+
 pub stands_batch : (old new : State) (d : Tables) (n : ℕ) (b : Batch) → Puts old new 1 (batch_stored n b) → n ≡ 1 + length d.batches → AreStored d old.now.trees → AreStored (with_batch d b) new.now.trees
 stands_batch old new d n b puts at s = record {
+  listed = same_list old new 1 _ puts.sets (λ e. cc) s.listed;
   meta = same_table old new 1 _ puts.sets meta_view _ 0 (λ e. cc) (λ e. cc) (λ e. cc) (λ e. cc) s.meta;
   sentences = same_table old new 1 _ puts.sets sentence_view _ 3 (λ e. cc) (λ e. cc) (λ e. cc) (λ e. cc) s.sentences;
   revisions = same_table old new 1 _ puts.sets revision_view _ 5 (λ e. cc) (λ e. cc) (λ e. cc) (λ e. cc) s.revisions;
@@ -260,6 +293,7 @@ stands_batch old new d n b puts at s = record {
 
 pub stands_sentence : (old new : State) (d : Tables) (n : ℕ) (x : Sentence) → Puts old new 3 (sentence_stored n x) → n ≡ 1 + length d.sentences → AreStored d old.now.trees → AreStored (with_sentence d x) new.now.trees
 stands_sentence old new d n x puts at s = record {
+  listed = same_list old new 3 _ puts.sets (λ e. cc) s.listed;
   meta = same_table old new 3 _ puts.sets meta_view _ 0 (λ e. cc) (λ e. cc) (λ e. cc) (λ e. cc) s.meta;
   batches = same_table old new 3 _ puts.sets batch_view _ 1 (λ e. cc) (λ e. cc) (λ e. cc) (λ e. cc) s.batches;
   revisions = same_table old new 3 _ puts.sets revision_view _ 5 (λ e. cc) (λ e. cc) (λ e. cc) (λ e. cc) s.revisions;
@@ -271,6 +305,7 @@ stands_sentence old new d n x puts at s = record {
 
 pub stands_move : (old new : State) (d : Tables) (n : ℕ) (m : Move) → Puts old new 7 (move_stored n m) → n ≡ 1 + length d.moves → AreStored d old.now.trees → AreStored (with_move d m) new.now.trees
 stands_move old new d n m puts at s = record {
+  listed = same_list old new 7 _ puts.sets (λ e. cc) s.listed;
   meta = same_table old new 7 _ puts.sets meta_view _ 0 (λ e. cc) (λ e. cc) (λ e. cc) (λ e. cc) s.meta;
   batches = same_table old new 7 _ puts.sets batch_view _ 1 (λ e. cc) (λ e. cc) (λ e. cc) (λ e. cc) s.batches;
   sentences = same_table old new 7 _ puts.sets sentence_view _ 3 (λ e. cc) (λ e. cc) (λ e. cc) (λ e. cc) s.sentences;
@@ -282,6 +317,7 @@ stands_move old new d n m puts at s = record {
 
 pub stands_revision : (old new : State) (d : Tables) (r : Revision) → Puts old new 5 (revision_stored (old.now.trees 5) r) → AreStored d old.now.trees → AreStored (with_revision d r) new.now.trees
 stands_revision old new d r puts s = record {
+  listed = same_list old new 5 _ puts.sets (λ e. cc) s.listed;
   meta = same_table old new 5 _ puts.sets meta_view _ 0 (λ e. cc) (λ e. cc) (λ e. cc) (λ e. cc) s.meta;
   batches = same_table old new 5 _ puts.sets batch_view _ 1 (λ e. cc) (λ e. cc) (λ e. cc) (λ e. cc) s.batches;
   sentences = same_table old new 5 _ puts.sets sentence_view _ 3 (λ e. cc) (λ e. cc) (λ e. cc) (λ e. cc) s.sentences;
@@ -293,6 +329,7 @@ stands_revision old new d r puts s = record {
 
 pub stands_pulled : (old new : State) (d : Tables) (n : ℕ) → Puts old new 9 (pulled_stored n) → AreStored d old.now.trees → AreStored (with_pulled d n) new.now.trees
 stands_pulled old new d n puts s = record {
+  listed = same_list old new 9 _ puts.sets (λ e. cc) s.listed;
   meta = same_table old new 9 _ puts.sets meta_view _ 0 (λ e. cc) (λ e. cc) (λ e. cc) (λ e. cc) s.meta;
   batches = same_table old new 9 _ puts.sets batch_view _ 1 (λ e. cc) (λ e. cc) (λ e. cc) (λ e. cc) s.batches;
   sentences = same_table old new 9 _ puts.sets sentence_view _ 3 (λ e. cc) (λ e. cc) (λ e. cc) (λ e. cc) s.sentences;
@@ -304,6 +341,7 @@ stands_pulled old new d n puts s = record {
 
 pub stands_batches : (old new : State) (d : Tables) (xs : List Batch) (rows : List Row) → Sets old new 1 rows → Shows batch_view (numbered batch_shown 1 xs) rows → AreStored d old.now.trees → AreStored (record d { batches = xs }) new.now.trees
 stands_batches old new d xs rows sets shows s = record {
+  listed = same_list old new 1 rows sets (λ e. cc) s.listed;
   meta = same_table old new 1 rows sets meta_view _ 0 (λ e. cc) (λ e. cc) (λ e. cc) (λ e. cc) s.meta;
   sentences = same_table old new 1 rows sets sentence_view _ 3 (λ e. cc) (λ e. cc) (λ e. cc) (λ e. cc) s.sentences;
   revisions = same_table old new 1 rows sets revision_view _ 5 (λ e. cc) (λ e. cc) (λ e. cc) (λ e. cc) s.revisions;
@@ -315,6 +353,7 @@ stands_batches old new d xs rows sets shows s = record {
 
 pub stands_sentences : (old new : State) (d : Tables) (xs : List Sentence) (rows : List Row) → Sets old new 3 rows → Shows sentence_view (numbered sentence_shown 1 xs) rows → AreStored d old.now.trees → AreStored (record d { sentences = xs }) new.now.trees
 stands_sentences old new d xs rows sets shows s = record {
+  listed = same_list old new 3 rows sets (λ e. cc) s.listed;
   meta = same_table old new 3 rows sets meta_view _ 0 (λ e. cc) (λ e. cc) (λ e. cc) (λ e. cc) s.meta;
   batches = same_table old new 3 rows sets batch_view _ 1 (λ e. cc) (λ e. cc) (λ e. cc) (λ e. cc) s.batches;
   revisions = same_table old new 3 rows sets revision_view _ 5 (λ e. cc) (λ e. cc) (λ e. cc) (λ e. cc) s.revisions;
@@ -326,6 +365,7 @@ stands_sentences old new d xs rows sets shows s = record {
 
 pub stands_totals : (old new : State) (d : Tables) (xs : List Total) (rows : List Row) → Sets old new 8 rows → Shows total_view (numbered total_shown 1 xs) rows → AreStored d old.now.trees → AreStored (record d { totals = xs }) new.now.trees
 stands_totals old new d xs rows sets shows s = record {
+  listed = same_list old new 8 rows sets (λ e. cc) s.listed;
   meta = same_table old new 8 rows sets meta_view _ 0 (λ e. cc) (λ e. cc) (λ e. cc) (λ e. cc) s.meta;
   batches = same_table old new 8 rows sets batch_view _ 1 (λ e. cc) (λ e. cc) (λ e. cc) (λ e. cc) s.batches;
   sentences = same_table old new 8 rows sets sentence_view _ 3 (λ e. cc) (λ e. cc) (λ e. cc) (λ e. cc) s.sentences;
@@ -337,6 +377,7 @@ stands_totals old new d xs rows sets shows s = record {
 
 pub stands_numbers : (old new : State) (d : Tables) (xs : List ℕ) (rows : List Row) → Sets old new 9 rows → Shows number_view (map number_shown xs) rows → AreStored d old.now.trees → AreStored (record d { pulled = xs }) new.now.trees
 stands_numbers old new d xs rows sets shows s = record {
+  listed = same_list old new 9 rows sets (λ e. cc) s.listed;
   meta = same_table old new 9 rows sets meta_view _ 0 (λ e. cc) (λ e. cc) (λ e. cc) (λ e. cc) s.meta;
   batches = same_table old new 9 rows sets batch_view _ 1 (λ e. cc) (λ e. cc) (λ e. cc) (λ e. cc) s.batches;
   sentences = same_table old new 9 rows sets sentence_view _ 3 (λ e. cc) (λ e. cc) (λ e. cc) (λ e. cc) s.sentences;

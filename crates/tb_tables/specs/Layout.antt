@@ -1,7 +1,7 @@
 -- The seven tables of a desk, as SQLite sees them once they are made in this order. The first six are those of version
 -- 1.
 use Rattle.sqlite.specs.Collation.TheVariants.{Binary}
-use Rattle.std.specs.Prelude.{true, false, [], ◌∷◌, Some, None, codes, List, ℕ}
+use Rattle.std.specs.Prelude.{◌≡◌, true, false, [], ◌∷◌, Some, None, codes, List, ℕ}
 use Rattle.sqlite.specs.declared.types.Value.TheVariants.{Null}
 use Rattle.sqlite.specs.Table.{Table}
 use Rattle.sqlite.specs.Schema.{Schema}
@@ -10,6 +10,9 @@ use Rattle.sqlite_schema.specs.declared.schema.Index.{Index}
 use Rattle.sqlite.specs.Kind.{Kind}
 use Rattle.sqlite.specs.Kind.TheVariants.{Integer, Text}
 use Rattle.sqlite_value.specs.Keys.{plain}
+use Rattle.sqlite_trees.specs.Tree.{Trees}
+use Rattle.sqlite_trees.specs.Objects.{catalog_tree}
+use Rattle.sqlite_catalog.specs.Listing.{Lists}
 
 abbrev pub key_column : List ℕ → Column
 key_column name = record {
@@ -108,6 +111,10 @@ desk_schema = record {
       ∷ unique_index (codes "sqlite_autoindex_revisions_1") 6 5 (1 ∷ 2 ∷ []) ∷ [];
   views = [];
 }
+
+-- The rows of `sqlite_schema` list no schema but that of a desk.
+abbrev pub ListsDesk : Trees → Type 0
+ListsDesk trees = (schema : Schema) → Lists (trees catalog_tree) schema → schema ≡ desk_schema
 
 -- the schema of version 1, in which no sentence could be pulled
 abbrev pub version_one_schema : Schema

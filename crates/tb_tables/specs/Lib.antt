@@ -4,6 +4,7 @@ pub mod Records
 pub mod Changes
 pub mod Making
 pub mod Values
+pub mod Revising
 pub mod Commands
 pub mod Failing
 pub mod Leaving

@@ -3,6 +3,7 @@ use Rattle.std.specs.Prelude.{ℕ, suc, pos, List, [], ◌∷◌, map, IsPermuta
 use Rattle.sqlite.specs.declared.types.Value.TheVariants.{Int, Text}
 use Rattle.sqlite.specs.Order.{Row, column}
 use Rattle.sqlite.specs.Tree.{Trees}
+use Rattle.tb_tables.specs.Layout.{ListsDesk}
 
 -- ---- the records. Texts are bytes; states and kinds are numbers.
 
@@ -103,8 +104,9 @@ number_view r = column r 0 ∷ []
 abbrev pub Shows : (Row → Row) → List Row → List Row → Type 0
 Shows view shown rows = IsPermutation shown (map view rows)
 
--- each of the seven tables shows its records
+-- a file has the seven tables and no others, and each shows its records
 pub record AreStored (d : Tables) (trees : Trees) : Type 0 where
+  pub listed : ListsDesk trees
   pub meta : Shows meta_view (number_shown 2 ∷ []) (trees 0)
   pub batches : Shows batch_view (numbered batch_shown 1 d.batches) (trees 1)
   pub sentences : Shows sentence_view (numbered sentence_shown 1 d.sentences) (trees 3)

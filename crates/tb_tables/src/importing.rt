@@ -12,6 +12,7 @@ ghost use Rattle.tb_tables.specs.Leaving.{CrashesInto, FailsInside, FailsOn, Kee
 ghost use Rattle.tb_tables.specs.Leaving.{AreStoredIn, StaysInside, Turns, BlamesNoDisk, WantsInside, WantsOn};
 
 use crate::recording::{MoveWrite, record};
+use crate::rows::RevisionWrite;
 use crate::{insert_batch, insert_revision, insert_sentence};
 use sqlite::{Alter, Connection, Error, Transaction};
 use std::marker::Model;
@@ -55,7 +56,14 @@ fn insert_item<S: Alter>(
     ensures survives { Survives (state S.Store tx.old.conn.now) (state S.Store tx.new.conn.now) (λ _. ⊥) }
 {
     insert_sentence(tx, number, item.sent_id, batch, 1, item.words)?;
-    insert_revision(tx, number, 1, who, item.body)?;
+    let revision = RevisionWrite {
+        sent: number,
+        rev: 1,
+        words: item.words,
+        who,
+        body: item.body,
+    };
+    insert_revision(tx, &revision)?;
     Ok(())
 }
 

@@ -7,11 +7,12 @@ ghost use Rattle.tb_tables.specs.Changes.{with_batch, with_sentence, with_revisi
 ghost use Rattle.tb_tables.specs.Changes.{HasRevisionRowids};
 ghost use Rattle.tb_tables.specs.Failing.{IsStoreFault, IsRoomFault, Lacks, AreUnique, NeedsNoFault, IsShort};
 ghost use Rattle.tb_tables.specs.Failing.{NeedsNoFaultOnRevisions};
+ghost use Rattle.tb_tables.specs.Revising.{revision_written};
 ghost use Rattle.tb_tables.specs.Values.{move_of};
 ghost use Rattle.tb_tables.specs.Leaving.{BlamesNoDisk, FailsInside, AreStoredIn, StaysInside, Turns};
 ghost use Rattle.tb_tables.specs.Leaving.{WantsInside};
 
-use crate::rows::MoveRow;
+use crate::rows::{MoveRow, RevisionWrite};
 use sqlite::{Alter, Constraint, Error, ErrorCode, Transaction, params};
 
 /// Adds a batch under the next number.
@@ -91,29 +92,26 @@ fn of_chosen_rowid(error: Error) -> Error
 /// Adds a revision.
 pub fn insert_revision<S: Alter>(
     tx: &mut Transaction<'_, S>,
-    sent: u32,
-    rev: u32,
-    who: &str,
-    body: &str,
+    revision: &RevisionWrite<'_>,
 ) -> Result<(), Error>
     ensures same_reference { tx.new.conn.ghost_name ≡ tx.old.conn.ghost_name }
     ensures ok { Turns S.Store tx.old.conn.now tx.new.conn.now result (λ d into.
-        into (with_revision d (record { sent = sent; rev = rev; who = who.now; body = body.now }))) }
+        into (with_revision d (revision_written revision.now))) }
     ensures fails { FailsInside IsRoomFault S.Store tx.old.conn.now tx.new.conn.now result (λ d fails.
         AreStoredIn S.Store tx.old.conn.now d
-        → AreUnique (with_revision d (record { sent = sent; rev = rev; who = who.now; body = body.now }))
-        → fails) }
+        → AreUnique (with_revision d (revision_written revision.now)) → fails) }
     ensures wants { WantsInside S.Store tx.old.conn.now tx.new.conn.now result (λ d wants.
         AreStoredIn S.Store tx.old.conn.now d
-        → AreUnique (with_revision d (record { sent = sent; rev = rev; who = who.now; body = body.now }))
-        → IsShort who.now → IsShort body.now → HasRevisionRowids (state S.Store tx.old.conn.now) 1 → wants) }
+        → AreUnique (with_revision d (revision_written revision.now))
+        → IsShort revision.now.who.now → IsShort revision.now.body.now
+        → HasRevisionRowids (state S.Store tx.old.conn.now) 1 → wants) }
     ensures cause { BlamesNoDisk NeedsNoFaultOnRevisions S.Store tx.old.conn.now tx.new.conn.now result }
     ensures inside { StaysInside S.Store tx.old.conn.now tx.new.conn.now result }
     ensures survives { Survives (state S.Store tx.old.conn.now) (state S.Store tx.new.conn.now) (λ _. ⊥) }
 {
     match tx.execute(
         "INSERT INTO revisions(sent, rev, who, body) VALUES (?1, ?2, ?3, ?4)",
-        params![sent, rev, who, body],
+        params![revision.sent, revision.rev, revision.who, revision.body],
     ) {
         Ok(_) => Ok(()),
         Err(error) => Err(of_chosen_rowid(error)),

@@ -7,7 +7,7 @@ ghost use Rattle.sqlite.specs.declared.types.Value.TheVariants.{Null};
 ghost use Rattle.sqlite_value.specs.Keys.{plain};
 ghost use Rattle.sqlite_schema.specs.declared.schema.Column.{Column as AnyColumn};
 ghost use Rattle.tb_tables.specs.Layout.{key_column, column, unique_index, meta, batches, sentences, revisions, moves};
-ghost use Rattle.tb_tables.specs.Layout.{totals, pulled, desk_schema, version_one_schema};
+ghost use Rattle.tb_tables.specs.Layout.{totals, pulled, desk_schema, version_one_schema, ListsDesk};
 
 use sqlite::{Alter, Connection};
 use sqlite_items::Items;
@@ -361,6 +361,14 @@ pub fn has_desk_schema<S: Alter>(conn: &Connection<S>) -> bool
     are_tables(schema.tables.as_slice())
         && are_indexes(schema.indexes.as_slice())
         && schema.views.is_empty()
+}
+
+/// An open database with the schema of a desk lists no other in its file.
+pub fn desk_schema_is_listed<S: Alter>(conn: &Connection<S>)
+    ensures { IsTrue (state S.Store conn.now).is_open → (state S.Store conn.now).now.schema ≡ desk_schema
+        → ListsDesk (state S.Store conn.now).now.trees }
+{
+    let _schema = conn.schema();
 }
 
 fn are_version_one_tables(tables: &[Table]) -> bool

@@ -34,6 +34,21 @@ pub struct RevisionRow {
     pub body: String,
 }
 
+/// A revision to be written.
+#[derive(Clone, Copy, Debug)]
+pub struct RevisionWrite<'a> {
+    /// The number of the sentence, from 1.
+    pub sent: u32,
+    /// The number of the revision, from 1 within its sentence.
+    pub rev: u32,
+    /// How many words it has.
+    pub words: u32,
+    /// The user who wrote it.
+    pub who: &'a str,
+    /// The text of the sentence, its blank line included.
+    pub body: &'a str,
+}
+
 /// A move; its number is its place among the moves, from 1.
 #[derive(Debug, Drop)]
 pub struct MoveRow {

@@ -4,6 +4,7 @@ use Rattle.sqlite.specs.Held.{state}
 use Rattle.tb_tables.specs.Records.{Sentence, Revision}
 use Rattle.tb_tables.specs.Changes.{with_revision, sentence_replaced}
 use Rattle.tb_tables.specs.Commands.{after_correction}
+use Rattle.tb_tables.specs.Revising.{revision_written}
 use Rattle.tb_tables.specs.Values.{move_of, total_of}
 use Rattle.tb_tables.proofs.WriteCommands.{changes_then}
 use Rattle.tb_tables.proofs.Numbers.{follows_too}
@@ -21,20 +22,20 @@ returns-clause-ok g c clean inside d s is follows stands =
     let change = c.args.change.now in
     let later : HasCleanDisk second = omega (arith, c.record.ensures.survives.clean) in
     let early : HasCleanDisk first = omega (arith, c.update_sentence.ensures.survives.clean) in
-    let r : Revision = record { sent = c.args.number; rev = c.args.rev; who = c.args.who.now; body = c.args.body.now } in
+    let r : Revision = revision_written c.args.revision.now in
     let written = with_revision d r in
-    let current = sentence_replaced written c.args.number (record s { rev = c.args.rev; words = c.args.words }) in
+    let current = sentence_replaced written c.args.revision.now.sent (record s { rev = c.args.revision.now.rev; words = c.args.revision.now.words }) in
     let one = c.in_ok-insert_revision.ensures.ok early inside d in
     let two = c.in_ok-update_sentence.ensures.ok later one.inside written s is (one.stands stands) in
     let three = c.in_ok-record.ensures.ok clean two.inside current (follows_too d current change refl refl follows) (two.stands (one.stands stands)) in
-    let after = after_correction d c.args.number s r c.args.words (move_of change.row) (total_of change.left) (total_of change.reached) in
+    let after = after_correction d c.args.revision.now.sent s r c.args.revision.now.words (move_of change.row) (total_of change.left) (total_of change.reached) in
     changes_then old first new d written after one (changes_then first second new written current after two three)
 
 pub returns-in_err-update_sentence-clause-fails : goal.returns-in_err-update_sentence-clause-fails
 returns-in_err-update_sentence-clause-fails g c clean unlimited inside d s is follows stands unique =
     let first = state g.S.Store c.insert_revision.new.tx.conn.now in
     let early : HasCleanDisk first = omega (arith, c.update_sentence.ensures.survives.clean) in
-    let r : Revision = record { sent = c.args.number; rev = c.args.rev; who = c.args.who.now; body = c.args.body.now } in
+    let r : Revision = revision_written c.args.revision.now in
     let one = c.in_ok-insert_revision.ensures.ok early inside d in
     let free = c.insert_revision.ensures.survives.limit ∙ unlimited in
     let fault = c.in_err-update_sentence.ensures.fails clean free one.inside (with_revision d r) (one.stands stands) unique in
@@ -44,10 +45,10 @@ pub returns-in_err-update_sentence-clause-wants : goal.returns-in_err-update_sen
 returns-in_err-update_sentence-clause-wants g c good clean unlimited inside d s is follows stands unique name who body mover free_ids =
     let first = state g.S.Store c.insert_revision.new.tx.conn.now in
     let early : HasCleanDisk first = omega (arith, c.update_sentence.ensures.survives.clean) in
-    let r : Revision = record { sent = c.args.number; rev = c.args.rev; who = c.args.who.now; body = c.args.body.now } in
+    let r : Revision = revision_written c.args.revision.now in
     let one = c.in_ok-insert_revision.ensures.ok early inside d in
     let free = c.insert_revision.ensures.survives.limit ∙ unlimited in
-    let named : (x : Sentence) → slice_get d.sentences (c.args.number - 1) ≡ Some x → IsShort x.sent_id = λ x there. subst (λ (y : Sentence). IsShort y.sent_id) (let same : s ≡ x = (let e = is in let f = there in cc) in same) name in
+    let named : (x : Sentence) → slice_get d.sentences (c.args.revision.now.sent - 1) ≡ Some x → IsShort x.sent_id = λ x there. subst (λ (y : Sentence). IsShort y.sent_id) (let same : s ≡ x = (let e = is in let f = there in cc) in same) name in
     second_blames g.S.Store c.args.tx.now.conn.now c.insert_revision.new.tx.conn.now c.update_sentence.new.tx.conn.now IsWant c.from_residual-in_err-update_sentence.result c.in_err-update_sentence.field-0.0 c.from_residual-in_err-update_sentence.ensures.1 c.insert_revision.ensures.survives c.update_sentence.ensures.survives (λ still whole. c.in_err-update_sentence.ensures.wants whole still free one.inside (with_revision d r) (one.stands stands) unique named) clean good
 
 pub returns-in_err-record-clause-fails : goal.returns-in_err-record-clause-fails
@@ -56,13 +57,13 @@ returns-in_err-record-clause-fails g c clean unlimited inside d s is follows sta
     let second = state g.S.Store c.update_sentence.new.tx.conn.now in
     let later : HasCleanDisk second = omega (arith, c.record.ensures.survives.clean) in
     let early : HasCleanDisk first = omega (arith, c.update_sentence.ensures.survives.clean) in
-    let r : Revision = record { sent = c.args.number; rev = c.args.rev; who = c.args.who.now; body = c.args.body.now } in
+    let r : Revision = revision_written c.args.revision.now in
     let written = with_revision d r in
-    let current = sentence_replaced written c.args.number (record s { rev = c.args.rev; words = c.args.words }) in
+    let current = sentence_replaced written c.args.revision.now.sent (record s { rev = c.args.revision.now.rev; words = c.args.revision.now.words }) in
     let one = c.in_ok-insert_revision.ensures.ok early inside d in
     let two = c.in_ok-update_sentence.ensures.ok later one.inside written s is (one.stands stands) in
     let free = c.update_sentence.ensures.survives.limit ∙ c.insert_revision.ensures.survives.limit ∙ unlimited in
-    let apart = unique_corrected written c.args.number s c.args.rev c.args.words is unique in
+    let apart = unique_corrected written c.args.revision.now.sent s c.args.revision.now.rev c.args.revision.now.words is unique in
     let fault = c.in_err-record.ensures.fails clean free two.inside current (follows_too d current c.args.change.now refl refl follows) (two.stands (one.stands stands)) apart in
     handed_on IsRoomFault c.from_residual-in_err-record.result c.in_err-record.field-0.0 c.from_residual-in_err-record.ensures.1 (inl fault)
 
@@ -72,13 +73,13 @@ returns-in_err-record-clause-wants g c good clean unlimited inside d s is follow
     let second = state g.S.Store c.update_sentence.new.tx.conn.now in
     let later : HasCleanDisk second = omega (arith, c.record.ensures.survives.clean) in
     let early : HasCleanDisk first = omega (arith, c.update_sentence.ensures.survives.clean) in
-    let r : Revision = record { sent = c.args.number; rev = c.args.rev; who = c.args.who.now; body = c.args.body.now } in
+    let r : Revision = revision_written c.args.revision.now in
     let written = with_revision d r in
-    let current = sentence_replaced written c.args.number (record s { rev = c.args.rev; words = c.args.words }) in
+    let current = sentence_replaced written c.args.revision.now.sent (record s { rev = c.args.revision.now.rev; words = c.args.revision.now.words }) in
     let one = c.in_ok-insert_revision.ensures.ok early inside d in
     let two = c.in_ok-update_sentence.ensures.ok later one.inside written s is (one.stands stands) in
     let free = c.update_sentence.ensures.survives.limit ∙ c.insert_revision.ensures.survives.limit ∙ unlimited in
-    let apart = unique_corrected written c.args.number s c.args.rev c.args.words is unique in
+    let apart = unique_corrected written c.args.revision.now.sent s c.args.revision.now.rev c.args.revision.now.words is unique in
     second_blames g.S.Store c.args.tx.now.conn.now c.update_sentence.new.tx.conn.now c.record.new.tx.conn.now IsWant c.from_residual-in_err-record.result c.in_err-record.field-0.0 c.from_residual-in_err-record.ensures.1 (both_survive (state g.S.Store c.args.tx.now.conn.now) (state g.S.Store c.insert_revision.new.tx.conn.now) (state g.S.Store c.update_sentence.new.tx.conn.now) c.insert_revision.ensures.survives c.update_sentence.ensures.survives) c.record.ensures.survives (λ still whole. c.in_err-record.ensures.wants whole still free two.inside current (follows_too d current c.args.change.now refl refl follows) (two.stands (one.stands stands)) apart mover) clean good
 
 pub returns-in_err-update_sentence-clause-cause : goal.returns-in_err-update_sentence-clause-cause

@@ -6,6 +6,7 @@ use Rattle.sqlite.specs.Held.{state}
 use Rattle.tb_tables.specs.Records.{Tables, Sentence, AreStored}
 use Rattle.tb_tables.specs.Changes.{Holds}
 use Rattle.tb_tables.specs.Commands.{after_correction}
+use Rattle.tb_tables.specs.Revising.{revision_written}
 use Rattle.tb_tables.specs.Values.{move_of, total_of}
 use Rattle.tb_tables.specs.Premises.{Follows}
 use Rattle.tb_tables.proofs.WriteCommands.{on_err, begins_inside, committed_holds, failed_holds, command_survives}
@@ -23,7 +24,7 @@ returns-clause-ok g c clean d holds s is follows =
     let same : end ≡ c.conn-2-1.given.0 = search rules in
     let late : HasCleanDisk (state g.S.Store end) = search rules in
     let was : HasCleanDisk (state g.S.Store last) = omega (arith, c.commit.ensures.survives.clean) in
-    let after = after_correction d c.args.number s (record { sent = c.args.number; rev = c.args.rev; who = c.args.who.now; body = c.args.body.now }) c.args.words (move_of change.row) (total_of change.left) (total_of change.reached) in
+    let after = after_correction d c.args.revision.now.sent s (revision_written c.args.revision.now) c.args.revision.now.words (move_of change.row) (total_of change.left) (total_of change.reached) in
     let start = begins_inside g.S.Store old begun last end c.transaction-tx.ensures.begun d holds in
     let made = c.in_ok-correct.ensures.ok was start.0 d s is follows start.1 in
     let ok = c.in_ok-commit.ensures.ok late in
@@ -49,7 +50,7 @@ returns-clause-crash g c =
     let end = c.commit.new.self.0 in
     let change = c.args.change.now in
     let same : end ≡ c.conn-2-1.given.0 = search rules in
-    let P = λ (db : Trees). (d : Tables) → Holds g.S.Store old d → (s : Sentence) → slice_get d.sentences (c.args.number - 1) ≡ Some s → Follows d change → AreStored (after_correction d c.args.number s (record { sent = c.args.number; rev = c.args.rev; who = c.args.who.now; body = c.args.body.now }) c.args.words (move_of change.row) (total_of change.left) (total_of change.reached)) db in
+    let P = λ (db : Trees). (d : Tables) → Holds g.S.Store old d → (s : Sentence) → slice_get d.sentences (c.args.revision.now.sent - 1) ≡ Some s → Follows d change → AreStored (after_correction d c.args.revision.now.sent s (revision_written c.args.revision.now) c.args.revision.now.words (move_of change.row) (total_of change.left) (total_of change.reached)) db in
     let written : HasCleanDisk (state g.S.Store last) → P (state g.S.Store last).now.trees =
     λ was d holds s is follows.
     let start = begins_inside g.S.Store old begun last end c.transaction-tx.ensures.begun d holds in
@@ -65,7 +66,7 @@ returns-in_err-commit-clause-crash g c =
     let end = c.commit.new.self.0 in
     let change = c.args.change.now in
     let same : end ≡ c.conn-2-1.given.0 = search rules in
-    let P = λ (db : Trees). (d : Tables) → Holds g.S.Store old d → (s : Sentence) → slice_get d.sentences (c.args.number - 1) ≡ Some s → Follows d change → AreStored (after_correction d c.args.number s (record { sent = c.args.number; rev = c.args.rev; who = c.args.who.now; body = c.args.body.now }) c.args.words (move_of change.row) (total_of change.left) (total_of change.reached)) db in
+    let P = λ (db : Trees). (d : Tables) → Holds g.S.Store old d → (s : Sentence) → slice_get d.sentences (c.args.revision.now.sent - 1) ≡ Some s → Follows d change → AreStored (after_correction d c.args.revision.now.sent s (revision_written c.args.revision.now) c.args.revision.now.words (move_of change.row) (total_of change.left) (total_of change.reached)) db in
     let written : HasCleanDisk (state g.S.Store last) → P (state g.S.Store last).now.trees =
     λ was d holds s is follows.
     let start = begins_inside g.S.Store old begun last end c.transaction-tx.ensures.begun d holds in
