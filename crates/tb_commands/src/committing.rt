@@ -10,7 +10,7 @@ ghost use Rattle.tb_commands.specs.Correcting.{IsMadeRevision};
 use sqlite::{Alter, Connection};
 use tb_core::{Fault, reached_states_are_well};
 use tb_refine::faults;
-use tb_tables::{MoveWrite, write_correction};
+use tb_tables::{MoveWrite, RevisionWrite, write_correction};
 
 /// Writes a correction of the sentence with this number, from 1. Its new current revision has so many words, by this
 /// user.
@@ -50,5 +50,12 @@ pub(crate) fn correct<S: Alter>(
     ensures autocommit { conn.new.in_transaction ≡ false }
 {
     reached_states_are_well();
-    faults::reported_write(write_correction(conn, number, rev, words, who, text, change))
+    let revision = RevisionWrite {
+        sent: number,
+        rev,
+        words,
+        who,
+        body: text,
+    };
+    faults::reported_write(write_correction(conn, &revision, change))
 }

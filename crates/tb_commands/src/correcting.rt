@@ -314,35 +314,51 @@ fn decide<'a>(
     }
 }
 
+/// A correction that is asked for, of the sentence with this number, from 1.
+#[derive(Clone, Copy)]
+struct Asked<'a> {
+    number: u32,
+    /// The number of the revision that was corrected.
+    base: u64,
+    user: &'a str,
+    body: &'a [u8],
+}
+
 /// Reads the sentence of a correction, which exists, and judges the correction.
 fn planned<'a, S: Alter>(
     alloc: Global,
     conn: &mut Connection<S>,
     counts: &Counters,
-    number: u32,
-    base: u64,
-    user: &str,
-    body: &'a [u8],
+    asked: &Asked<'a>,
 ) -> Result<(Corrected, Option<CorrectionPlan<'a>>), Fault>
-    requires { 0 < number }
+    requires { 0 < asked.now.number }
     ensures answered { Tells S.Store conn.old conn.new result (λ s r. IsCounted counts.now s
-        → number ≤ length s.sentences
-        → Decides counts.now.limits s number base user.now body.now r.0 r.1) }
-    ensures text { IfOk result (λ r. IfSome r.1 (λ p. p.text ≡ body.now)) }
+        → asked.now.number ≤ length s.sentences
+        → Decides counts.now.limits s asked.now.number asked.now.base asked.now.user.now asked.now.body.now r.0 r.1) }
+    ensures text { IfOk result (λ r. IfSome r.1 (λ p. p.text ≡ asked.now.body.now)) }
     ensures refused { RefusesAs S.Store conn.old conn.new result (λ s r. IsCounted counts.now s
-        → number ≤ length s.sentences
-        → Steps counts.now.limits s (correct_it number base user.now body.now) (refused_by r) s
+        → asked.now.number ≤ length s.sentences
+        → Steps counts.now.limits s
+        (correct_it asked.now.number asked.now.base asked.now.user.now asked.now.body.now) (refused_by r) s
         × IsDeskOf S.Store conn.new s) }
     ensures output { result ≢ Err Fault.Output }
     ensures fails { HasCleanDisk (state S.Store conn.new) → (state S.Store conn.old).step_limit ≡ None
         → IsWithin counts.now.limits → (s : Machine) → IsDeskOf S.Store conn.old s → IsCounted counts.now s
-        → number ≤ length s.sentences → result ≢ Err Fault.NotADesk }
+        → asked.now.number ≤ length s.sentences → result ≢ Err Fault.NotADesk }
     ensures cause { IsFaultless S.Store conn.old conn.new → FailsOnlyAs IsNoDevice S.Store conn.old conn.new result }
     ensures room { IfOk result (λ r. IfSome r.1 (λ _. counts.now.moves + 1 ≤ 1000000000)) }
     ensures read_only { IsReadOnly S.Store conn.old conn.new (is_ok result) }
 {
-    let read = find_current(conn, number)?;
-    decide(alloc, counts, number, base, user, body, &read)
+    let read = find_current(conn, asked.number)?;
+    decide(
+        alloc,
+        counts,
+        asked.number,
+        asked.base,
+        asked.user,
+        asked.body,
+        &read,
+    )
 }
 
 /// Corrects the sentence with this number, from 1, which exists. `base` is the number of the revision that was
@@ -389,7 +405,13 @@ pub fn correct<S: Alter>(
     ensures autocommit { conn.new.in_transaction ≡ false }
 {
     commands_stay_within_limits();
-    let (reply, plan) = planned(alloc, conn, counts, number, base, user, body)?;
+    let asked = Asked {
+        number,
+        base,
+        user,
+        body,
+    };
+    let (reply, plan) = planned(alloc, conn, counts, &asked)?;
     let Some(plan) = plan else {
         return Ok((reply, None));
     };

@@ -206,21 +206,28 @@ fn plan(
     })
 }
 
+/// An event that is asked for, on the batch with this name.
+#[derive(Clone, Copy)]
+struct Asked<'a> {
+    name: &'a str,
+    event: Event,
+    user: &'a str,
+}
+
 /// Reads the batch of an event and the sums of its sentences, and judges the event.
 fn planned<S: Alter>(
     alloc: Global,
     conn: &mut Connection<S>,
     counts: &Counters,
-    name: &str,
-    event: Event,
-    user: &str,
+    asked: &Asked<'_>,
 ) -> Result<EventPlan, Fault>
     ensures answered { Tells S.Store conn.old conn.new result (λ s p. IsCounted counts.now s
-        → (place : ℕ) × IsPlanned s place event user.now p × IsAllowed s (stepping place event user.now)
-        × Steps counts.now.limits s (event_on name.now event user.now) (replied (moved_on p.reply)) (after s
-        (stepping place event user.now))) }
+        → (place : ℕ) × IsPlanned s place asked.now.event asked.now.user.now p
+        × IsAllowed s (stepping place asked.now.event asked.now.user.now)
+        × Steps counts.now.limits s (event_on asked.now.name.now asked.now.event asked.now.user.now)
+        (replied (moved_on p.reply)) (after s (stepping place asked.now.event asked.now.user.now))) }
     ensures refused { RefusesAs S.Store conn.old conn.new result (λ s r. IsCounted counts.now s
-        → Steps counts.now.limits s (event_on name.now event user.now) (refused_by r) s
+        → Steps counts.now.limits s (event_on asked.now.name.now asked.now.event asked.now.user.now) (refused_by r) s
         × IsDeskOf S.Store conn.new s) }
     ensures output { result ≢ Err Fault.Output }
     ensures fails { KnowsDeskWhere S.Store conn.old conn.new result (λ s so. IsCounted counts.now s
@@ -230,10 +237,10 @@ fn planned<S: Alter>(
     ensures read_only { IsReadOnly S.Store conn.old conn.new (is_ok result) }
 {
     commands_stay_within_limits();
-    let found = find_batch(conn, name)?;
-    let (batch, makes) = judge(counts, name, event, user, found)?;
+    let found = find_batch(conn, asked.name)?;
+    let (batch, makes) = judge(counts, asked.name, asked.event, asked.user, found)?;
     let sums = find_work(alloc, conn, batch.number)?;
-    plan(alloc, counts, event, user, batch, makes, sums)
+    plan(alloc, counts, asked.event, asked.user, batch, makes, sums)
 }
 
 /// Writes a planned event.
@@ -301,7 +308,8 @@ pub fn event<S: Alter>(
     ensures autocommit { conn.new.in_transaction ≡ false }
 {
     commands_stay_within_limits();
-    let plan = planned(alloc, conn, counts, name, event, user)?;
+    let asked = Asked { name, event, user };
+    let plan = planned(alloc, conn, counts, &asked)?;
     write(conn, &plan)?;
     Ok((plan.reply, plan.prepared.totals))
 }

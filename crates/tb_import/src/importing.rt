@@ -111,49 +111,60 @@ fn write<S: Alter>(
     Ok((plan.reply, plan.prepared.totals))
 }
 
+/// An import that is asked for: the file's text, as a batch with this name.
+#[derive(Clone, Copy)]
+struct Asked<'a> {
+    name: &'a str,
+    user: &'a str,
+    body: &'a [u8],
+}
+
 /// Runs an import that is no repeat. Returns its reply, and the totals after it.
 fn import_new<S: Alter>(
     alloc: Global,
     conn: &mut Connection<S>,
     known: &ImportCounters,
-    name: &str,
-    user: &str,
-    body: &[u8],
+    asked: &Asked<'_>,
     found: NameFound,
 ) -> Result<(Imported, Totals), Fault>
     requires autocommit { conn.old.in_transaction ≡ false }
     requires within { IsWithin known.now.counts.limits }
     ensures answered { Tells S.Store conn.old conn.new result (λ s r. IsKnown known.now s
-        → IsNamedImport s name.now user.now body.now
-        → FindsName s name.now body.now found
-        → HasImported S.Store known.now.counts.limits s name.now user.now body.now conn.new r.0 r.1) }
+        → IsNamedImport s asked.now.name.now asked.now.user.now asked.now.body.now
+        → FindsName s asked.now.name.now asked.now.body.now found
+        → HasImported S.Store known.now.counts.limits s asked.now.name.now asked.now.user.now asked.now.body.now
+        conn.new r.0 r.1) }
     ensures refused { RefusesAs S.Store conn.old conn.new result (λ s r. IsKnown known.now s
-        → IsNamedImport s name.now user.now body.now
-        → FindsName s name.now body.now found
-        → Steps known.now.counts.limits s (import_file name.now user.now body.now) (refused_by r) s
+        → IsNamedImport s asked.now.name.now asked.now.user.now asked.now.body.now
+        → FindsName s asked.now.name.now asked.now.body.now found
+        → Steps known.now.counts.limits s
+        (import_file asked.now.name.now asked.now.user.now asked.now.body.now) (refused_by r) s
         × IsDeskOf S.Store conn.new s) }
     ensures output { result ≢ Err Fault.Output }
     ensures fails { KnowsDeskWhere S.Store conn.old conn.new result (λ s so. IsKnown known.now s
-        → IsNamedImport s name.now user.now body.now
-        → FindsName s name.now body.now found → so) }
+        → IsNamedImport s asked.now.name.now asked.now.user.now asked.now.body.now
+        → FindsName s asked.now.name.now asked.now.body.now found → so) }
     ensures cause { BlamesNoDevice S.Store conn.old conn.new result (λ s so. IsKnown known.now s
-        → IsNamedImport s name.now user.now body.now → FindsName s name.now body.now found
-        → HasRoomIfWritten known.now.counts.limits s (import_file name.now user.now body.now) body.now
-        (length body.now) (state S.Store conn.old) → so) }
+        → IsNamedImport s asked.now.name.now asked.now.user.now asked.now.body.now
+        → FindsName s asked.now.name.now asked.now.body.now found
+        → HasRoomIfWritten known.now.counts.limits s
+        (import_file asked.now.name.now asked.now.user.now asked.now.body.now) asked.now.body.now
+        (length asked.now.body.now) (state S.Store conn.old) → so) }
     ensures room { IfOk result (λ r. (known.now.counts.moves + 1 ≤ 1000000000)
         × (known.now.sentences + r.0.sentences ≤ 1000000)) }
     ensures keeps_records { KeepsRecordsOnErr S.Store conn.old conn.new result }
     ensures crash { CrashesTo S.Store conn.old conn.new (λ s db. IsKnown known.now s
-        → IsNamedImport s name.now user.now body.now
-        → FindsName s name.now body.now found
+        → IsNamedImport s asked.now.name.now asked.now.user.now asked.now.body.now
+        → FindsName s asked.now.name.now asked.now.body.now found
         → (a : Answer) × (t : Machine)
-        × Steps known.now.counts.limits s (import_file name.now user.now body.now) a t × AreStored (tables_of t) db) }
+        × Steps known.now.counts.limits s
+        (import_file asked.now.name.now asked.now.user.now asked.now.body.now) a t × AreStored (tables_of t) db) }
     ensures autocommit { conn.new.in_transaction ≡ false }
 {
     commands_stay_within_limits();
-    let taken = judge_import_body(alloc, body, found)?;
+    let taken = judge_import_body(alloc, asked.body, found)?;
     admit(conn, known, taken.as_slice())?;
-    write(alloc, conn, known, name, user, taken.as_slice())
+    write(alloc, conn, known, asked.name, asked.user, taken.as_slice())
 }
 
 /// Imports a file of valid CoNLL-U sentences as a new batch with this name. Returns the reply and the totals after it.
@@ -202,7 +213,8 @@ pub fn import<S: Alter>(
     match judge_import_before(name, user, found)? {
         Judged::Repeat(reply) => Ok((reply, None)),
         Judged::Continue => {
-            let (reply, totals) = import_new(alloc, conn, known, name, user, body, found)?;
+            let asked = Asked { name, user, body };
+            let (reply, totals) = import_new(alloc, conn, known, &asked, found)?;
             Ok((reply, Some(totals)))
         }
     }

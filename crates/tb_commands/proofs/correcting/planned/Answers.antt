@@ -9,12 +9,12 @@ use Rattle.tb_commands.proofs.correcting.planned.Goals as goal
 
 pub returns-clause-answered : goal.returns-clause-answered
 returns-clause-answered g c clean = if_ok c.decide.result c.decide.ensures.answered (λ r reported s desk counted within.
-    let it = sentence_there s c.args.number c.args.number refl c.requires within in
+    let it = sentence_there s c.args.asked.now.number c.args.asked.now.number refl c.requires within in
     reported s it.0 desk.reachable.reached counted it.1 (c.in_ok-read.ensures.answered clean s desk it.0 it.1))
 
 pub returns-clause-refused : goal.returns-clause-refused
 returns-clause-refused g c clean r is s desk counted within =
-    let it = sentence_there s c.args.number c.args.number refl c.requires within in (
+    let it = sentence_there s c.args.asked.now.number c.args.asked.now.number refl c.requires within in (
       c.decide.ensures.refused r is s it.0 desk.reachable.reached counted it.1 (c.in_ok-read.ensures.answered clean s desk it.0 it.1),
       desk_after c.in_ok-read.ensures.read.read_only clean desk,
     )
@@ -23,12 +23,12 @@ pub returns-in_err-read-clause-fails : goal.returns-in_err-read-clause-fails
 returns-in_err-read-clause-fails g c clean unlimited limits s desk counted within bad =
     let reported = err_from_is_err_and c.from_residual.result c.from_residual.ensures.1 in
     let failed : c.find_current.result ≡ Err NotADesk = let was = c.in_err-read.was in let one = reported.1 in let two = reported.2 in cc in
-    let it = sentence_there s c.args.number c.args.number refl c.requires within in
+    let it = sentence_there s c.args.asked.now.number c.args.asked.now.number refl c.requires within in
     c.find_current.ensures.read.fails clean unlimited s desk it.0 it.1 failed
 
 pub returns-clause-fails : goal.returns-clause-fails
 returns-clause-fails g c clean unlimited limits s desk counted within bad =
-    let it = sentence_there s c.args.number c.args.number refl c.requires within in
+    let it = sentence_there s c.args.asked.now.number c.args.asked.now.number refl c.requires within in
     c.decide.ensures.fails limits s it.0 desk.reachable counted it.1 (c.in_ok-read.ensures.answered clean s desk it.0 it.1) bad
 
 pub returns-in_err-read-clause-read_only : goal.returns-in_err-read-clause-read_only

@@ -25,9 +25,9 @@ returns-clause-answered g c clean = if_ok c.plan.result c.plan.ensures.planned (
     let mid = was_clean c.find_work.ensures.read.read_only clean in
     let found = c.in_ok-found.ensures.answered mid s desk in
     let first = desk_after c.in_ok-found.ensures.read.read_only mid desk in
-    let here = subst (λ (o : Option BatchRead). FindsBatch s c.args.name.now (option_map seen_of o)) c.in_ok-batch.ensures.found.0 found in
+    let here = subst (λ (o : Option BatchRead). FindsBatch s c.args.asked.now.name.now (option_map seen_of o)) c.in_ok-batch.ensures.found.0 found in
     let judged = c.in_ok-batch.ensures.accepted s desk.reachable.reached found counted.moves in
-    planned_event c.args.counts.now.limits s c.args.counts.now c.args.name.now c.args.event c.args.user.now c.in_ok-batch.batch c.in_ok-batch.makes c.in_ok-sums.sums p desk.reachable.reached counted here c.in_ok-batch.ensures.found.1
+    planned_event c.args.counts.now.limits s c.args.counts.now c.args.asked.now.name.now c.args.asked.now.event c.args.asked.now.user.now c.in_ok-batch.batch c.in_ok-batch.makes c.in_ok-sums.sums p desk.reachable.reached counted here c.in_ok-batch.ensures.found.1
     (c.in_ok-sums.ensures.answered clean s first) judged (reported s))
 
 pub returns-in_err-found-clause-fails : goal.returns-in_err-found-clause-fails
@@ -52,17 +52,17 @@ returns-in_err-sums-clause-fails g c clean unlimited s desk counted within bad =
 
 pub returns-clause-fails : goal.returns-clause-fails
 returns-clause-fails g c clean unlimited s desk counted within bad =
-    let event = c.args.event in
-    let user = c.args.user.now in
+    let event = c.args.asked.now.event in
+    let user = c.args.asked.now.user.now in
     let limits = c.args.counts.now.limits in
     let mid = was_clean c.find_work.ensures.read.read_only clean in
     let found = c.in_ok-found.ensures.answered mid s desk in
     let first = desk_after c.in_ok-found.ensures.read.read_only mid desk in
-    let here = subst (λ (o : Option BatchRead). FindsBatch s c.args.name.now (option_map seen_of o)) c.in_ok-batch.ensures.found.0 found in
+    let here = subst (λ (o : Option BatchRead). FindsBatch s c.args.asked.now.name.now (option_map seen_of o)) c.in_ok-batch.ensures.found.0 found in
     let judged = c.in_ok-batch.ensures.accepted s desk.reachable.reached found counted.moves in
     let act = stepping (c.in_ok-batch.batch.number - 1) event user in
-    let next = c.commands_stay_within_limits.ensures limits s (after s act) (event_on c.args.name.now event user) (replied (reply_to s act)) within.sentences within.moves desk.reachable judged.1 in
-    event_fits s c.args.counts.now c.args.name.now event user c.in_ok-batch.batch c.in_ok-sums.sums desk.reachable counted here (c.in_ok-sums.ensures.answered clean s first) judged.0 next
+    let next = c.commands_stay_within_limits.ensures limits s (after s act) (event_on c.args.asked.now.name.now event user) (replied (reply_to s act)) within.sentences within.moves desk.reachable judged.1 in
+    event_fits s c.args.counts.now c.args.asked.now.name.now event user c.in_ok-batch.batch c.in_ok-sums.sums desk.reachable counted here (c.in_ok-sums.ensures.answered clean s first) judged.0 next
     (λ place b reachable allowed further known there at st n w. c.plan.ensures.fails s place b reachable allowed further known there at st n w bad)
 
 pub returns-in_err-sums-clause-cause : goal.returns-in_err-sums-clause-cause

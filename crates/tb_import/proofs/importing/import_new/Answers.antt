@@ -33,17 +33,17 @@ returns-in_err-taken-clause-refused g c clean r is s desk known named found =
     let one = reported.1 in
     let two = reported.2 in
     let same : c.in_err-taken.field-0.0 ≡ Refused r = cc in
-    let refusal = taking_refused (λ q. (l : Limits) (t : Machine) (name by : List ℕ) → IsNamedImport t name by c.args.body.now → FindsName t name c.args.body.now c.args.found → Steps l t (import_file name by c.args.body.now) (refused q) t)
+    let refusal = taking_refused (λ q. (l : Limits) (t : Machine) (name by : List ℕ) → IsNamedImport t name by c.args.asked.now.body.now → FindsName t name c.args.asked.now.body.now c.args.found → Steps l t (import_file name by c.args.asked.now.body.now) (refused q) t)
     c.in_err-taken.field-0.0 r same c.in_err-taken.ensures.refused in
-    (refusal c.args.known.now.counts.limits s c.args.name.now c.args.user.now named found, desk)
+    (refusal c.args.known.now.counts.limits s c.args.asked.now.name.now c.args.asked.now.user.now named found, desk)
 
 pub returns-in_err-admit-clause-refused : goal.returns-in_err-admit-clause-refused
 returns-in_err-admit-clause-refused g c clean r is s desk known named found =
     let reported = err_from_is_err_and c.from_residual-in_err-admit.result c.from_residual-in_err-admit.ensures.1 in
     let failed : c.admit.result ≡ Err (Refused r) = let was = c.in_err-admit.was in let one = reported.1 in let two = reported.2 in cc in
     let taken = c.in_ok-taken.ensures.taken in
-    let goes = c.in_ok-taken.ensures.goes s c.args.name.now c.args.user.now taken.0 named found taken.1 in
-    c.admit.ensures.refused clean r failed s c.args.name.now c.args.user.now c.args.body.now taken.0 desk known goes (c.as_slice.ensures.value ∙ taken.2)
+    let goes = c.in_ok-taken.ensures.goes s c.args.asked.now.name.now c.args.asked.now.user.now taken.0 named found taken.1 in
+    c.admit.ensures.refused clean r failed s c.args.asked.now.name.now c.args.asked.now.user.now c.args.asked.now.body.now taken.0 desk known goes (c.as_slice.ensures.value ∙ taken.2)
 
 pub returns-in_err-admit-clause-crash : goal.returns-in_err-admit-clause-crash
 returns-in_err-admit-clause-crash g c = survives_weaker (state g.S.Store c.args.conn.now) (state g.S.Store c.admit.new.conn) _ _ (λ _ _ none s desk known named found. absurd (none (tables_of s) desk.holds)) c.admit.ensures.left.commits_nothing
@@ -61,9 +61,9 @@ returns-clause-crash g c = survives_then (state g.S.Store c.args.conn.now) (stat
     let here = desk_stays g.S.Store c.args.conn.now c.admit.new.conn c.in_ok-admit.ensures.stays mid s desk in
     let taken = c.in_ok-taken.ensures.taken in
     let bs = taken.0 in
-    let goes = c.in_ok-taken.ensures.goes s c.args.name.now c.args.user.now bs named found taken.1 in
-    let allowed = c.in_ok-admit.ensures.accepted mid s c.args.name.now c.args.user.now c.args.body.now bs desk known goes (c.as_slice.ensures.value ∙ taken.2) in
-    let act = importing c.args.name.now c.args.user.now bs in
+    let goes = c.in_ok-taken.ensures.goes s c.args.asked.now.name.now c.args.asked.now.user.now bs named found taken.1 in
+    let allowed = c.in_ok-admit.ensures.accepted mid s c.args.asked.now.name.now c.args.asked.now.user.now c.args.asked.now.body.now bs desk known goes (c.as_slice.ensures.value ∙ taken.2) in
+    let act = importing c.args.asked.now.name.now c.args.asked.now.user.now bs in
     (replied (reply_to s act), after s act, allowed.1, whole s bs here known (c.as_slice-2.ensures.value ∙ taken.2) allowed.0)) c.admit.ensures.left.commits_nothing c.write.ensures.crash
 
 pub returns-clause-answered : goal.returns-clause-answered
@@ -72,17 +72,17 @@ returns-clause-answered g c clean = if_ok c.write.result (c.write.ensures.answer
     let here = desk_stays g.S.Store c.args.conn.now c.admit.new.conn c.in_ok-admit.ensures.stays mid s desk in
     let taken = c.in_ok-taken.ensures.taken in
     let bs = taken.0 in
-    let name = c.args.name.now in
-    let user = c.args.user.now in
+    let name = c.args.asked.now.name.now in
+    let user = c.args.asked.now.user.now in
     let goes = c.in_ok-taken.ensures.goes s name user bs named found taken.1 in
-    let allowed = c.in_ok-admit.ensures.accepted mid s name user c.args.body.now bs desk known goes (c.as_slice.ensures.value ∙ taken.2) in
+    let allowed = c.in_ok-admit.ensures.accepted mid s name user c.args.asked.now.body.now bs desk known goes (c.as_slice.ensures.value ∙ taken.2) in
     let a = importing name user bs in
     let limits = c.requires.within in
-    let reachable = c.commands_stay_within_limits.ensures c.args.known.now.counts.limits s (after s a) (import_file name user c.args.body.now) (replied (reply_to s a)) limits.sentences limits.moves desk.reachable allowed.1 in
+    let reachable = c.commands_stay_within_limits.ensures c.args.known.now.counts.limits s (after s a) (import_file name user c.args.asked.now.body.now) (replied (reply_to s a)) limits.sentences limits.moves desk.reachable allowed.1 in
     let done = reported s bs here known (c.as_slice-2.ensures.value ∙ taken.2) allowed.0 reachable in
     record {
       next = after s a;
-      steps = subst (λ (q : Reply). Steps c.args.known.now.counts.limits s (import_file name user c.args.body.now) (replied q) (after s a)) (sym done.2) allowed.1;
+      steps = subst (λ (q : Reply). Steps c.args.known.now.counts.limits s (import_file name user c.args.asked.now.body.now) (replied q) (after s a)) (sym done.2) allowed.1;
       desk = done.0;
       totals = done.1;
       batches = length-append s.batches (new_batch name ∷ []);
@@ -112,20 +112,20 @@ returns-clause-fails g c clean unlimited s desk known named found bad =
     let here = desk_stays g.S.Store c.args.conn.now c.admit.new.conn c.in_ok-admit.ensures.stays mid s desk in
     let taken = c.in_ok-taken.ensures.taken in
     let bs = taken.0 in
-    let name = c.args.name.now in
-    let user = c.args.user.now in
+    let name = c.args.asked.now.name.now in
+    let user = c.args.asked.now.user.now in
     let goes = c.in_ok-taken.ensures.goes s name user bs named found taken.1 in
-    let allowed = c.in_ok-admit.ensures.accepted mid s name user c.args.body.now bs desk known goes (c.as_slice.ensures.value ∙ taken.2) in
+    let allowed = c.in_ok-admit.ensures.accepted mid s name user c.args.asked.now.body.now bs desk known goes (c.as_slice.ensures.value ∙ taken.2) in
     let a = importing name user bs in
     let limits = c.requires.within in
-    let reachable = c.commands_stay_within_limits.ensures c.args.known.now.counts.limits s (after s a) (import_file name user c.args.body.now) (replied (reply_to s a)) limits.sentences limits.moves desk.reachable allowed.1 in
+    let reachable = c.commands_stay_within_limits.ensures c.args.known.now.counts.limits s (after s a) (import_file name user c.args.asked.now.body.now) (replied (reply_to s a)) limits.sentences limits.moves desk.reachable allowed.1 in
     c.write.ensures.fails clean (c.admit.ensures.left.commits_nothing.limit ∙ unlimited) s bs here known (c.as_slice-2.ensures.value ∙ taken.2) allowed.0 reachable bad
 
 -- ---- and of no device
 
 pub returns-in_err-taken-clause-cause : goal.returns-in_err-taken-clause-cause
 returns-in_err-taken-clause-cause g c good clean unlimited s desk known named found room bad =
-    let clear = taking_clear (λ q. (l : Limits) (t : Machine) (name by : List ℕ) → IsNamedImport t name by c.args.body.now → FindsName t name c.args.body.now c.args.found → Steps l t (import_file name by c.args.body.now) (refused q) t)
+    let clear = taking_clear (λ q. (l : Limits) (t : Machine) (name by : List ℕ) → IsNamedImport t name by c.args.asked.now.body.now → FindsName t name c.args.asked.now.body.now c.args.found → Steps l t (import_file name by c.args.asked.now.body.now) (refused q) t)
     c.in_err-taken.field-0.0 c.in_err-taken.ensures.refused in
     never_reported c.from_residual.result bad (handed_on IsNoDevice c.from_residual.result c.in_err-taken.field-0.0 c.from_residual.ensures.1 clear)
 
@@ -141,18 +141,18 @@ returns-clause-cause g c good clean unlimited s desk known named found room bad 
     let here = desk_stays g.S.Store c.args.conn.now c.admit.new.conn c.in_ok-admit.ensures.stays mid s desk in
     let taken = c.in_ok-taken.ensures.taken in
     let bs = taken.0 in
-    let name = c.args.name.now in
-    let user = c.args.user.now in
+    let name = c.args.asked.now.name.now in
+    let user = c.args.asked.now.user.now in
     let goes = c.in_ok-taken.ensures.goes s name user bs named found taken.1 in
-    let allowed = c.in_ok-admit.ensures.accepted mid s name user c.args.body.now bs desk known goes (c.as_slice.ensures.value ∙ taken.2) in
+    let allowed = c.in_ok-admit.ensures.accepted mid s name user c.args.asked.now.body.now bs desk known goes (c.as_slice.ensures.value ∙ taken.2) in
     let a = importing name user bs in
     let limits = c.requires.within in
-    let reachable = c.commands_stay_within_limits.ensures c.args.known.now.counts.limits s (after s a) (import_file name user c.args.body.now) (replied (reply_to s a)) limits.sentences limits.moves desk.reachable allowed.1 in
+    let reachable = c.commands_stay_within_limits.ensures c.args.known.now.counts.limits s (after s a) (import_file name user c.args.asked.now.body.now) (replied (reply_to s a)) limits.sentences limits.moves desk.reachable allowed.1 in
     let longer = length-append s.moves (move_of s a ∷ []) in
     let has = room (reply_to s a) (after s a) allowed.1 (subst (λ k. length s.moves < k) (sym longer) (omega arith)) in
-    let text : c.args.body.now ≡ text_of bs = taken.1.file.text in
+    let text : c.args.asked.now.body.now ≡ text_of bs = taken.1.file.text in
     let size = ap length text in
     let sees = c.in_ok-admit.ensures.stays.sees mid desk.holds.schema in
-    let rows = subst (λ (d : Database). HasRowids (length c.args.body.now) (d.trees 5)) (sym sees) has.1 in
-    let rowids = fewer_rowids (length c.args.body.now) (length bs) _ (omega (arith, size, few bs)) rows in
+    let rows = subst (λ (d : Database). HasRowids (length c.args.asked.now.body.now) (d.trees 5)) (sym sees) has.1 in
+    let rowids = fewer_rowids (length c.args.asked.now.body.now) (length bs) _ (omega (arith, size, few bs)) rows in
     c.write.ensures.cause still clean (left.limit ∙ unlimited) s here bs known (c.as_slice-2.ensures.value ∙ taken.2) allowed.0 reachable (subst IsShort text has.0) rowids bad
