@@ -10,6 +10,7 @@ mod fetch;
 mod records;
 mod single;
 mod stream;
+mod texts;
 mod whole;
 mod work;
 

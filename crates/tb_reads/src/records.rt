@@ -10,6 +10,8 @@ ghost use Rattle.tb_reads.specs.Found.{HasUnreadable, ShowsFirst};
 ghost use Rattle.tb_reads.specs.Failing.{IsReadFault, IsReadWant, IsUnread};
 
 use crate::error::ReadError;
+use crate::stream::CurrentRev;
+use crate::texts::ColumnText;
 use crate::work::BatchSentence;
 use sqlite::types::ValueRef;
 use sqlite::{Error, ErrorCode, Row};
@@ -142,8 +144,8 @@ fn text_at(row: &Row, at: usize) -> Result<String, ReadError>
     ensures ok { IfOk result (λ s. column row.now at ≡ Text (string_bytes s)) }
     ensures fault { IfErr result (IsUnread (ShowsText (column row.now at))) }
 {
-    match row.get::<String>(at) {
-        Ok(text) => Ok(text),
+    match row.get::<ColumnText>(at) {
+        Ok(column) => Ok(column.text),
         Err(_) => Err(unread(is_text(row, at))),
     }
 }
@@ -156,13 +158,13 @@ fn texts_at(row: &Row, first: usize, second: usize) -> Result<(String, String), 
         × (column row.now second ≡ Text (string_bytes p.1))) }
     ensures fault { IfErr result (IsUnread (ShowsText (column row.now first) × ShowsText (column row.now second))) }
 {
-    let Ok(text) = row.get::<String>(first) else {
+    let Ok(text) = row.get::<ColumnText>(first) else {
         return Err(unread(is_text(row, first) && is_text(row, second)));
     };
-    let Ok(next) = row.get::<String>(second) else {
+    let Ok(next) = row.get::<ColumnText>(second) else {
         return Err(unread(is_text(row, first) && is_text(row, second)));
     };
-    Ok((text, next))
+    Ok((text.text, next.text))
 }
 
 impl FromRow for BatchRow {
@@ -381,6 +383,31 @@ impl FromRow for BatchSentence {
         let rev = number_at(row, 1)?;
         let words = number_at(row, 2)?;
         Ok(BatchSentence { number, rev, words })
+    }
+}
+
+impl FromRow for CurrentRev {
+    ghost use Rattle.tb_reads.specs.declared.stream.CurrentRev.{CurrentRev};
+    ghost use Rattle.tb_reads.specs.Readable.{IsHead};
+    ghost use Rattle.tb_reads.specs.Streams.{head_shown};
+
+    ghost Plain = { CurrentRev };
+
+    ghost plain = { λ x. x };
+
+    ghost shown = { λ _. head_shown };
+
+    ghost Fits = { IsHead };
+
+    ghost HasTexts = { ⊥ };
+
+    fn from_row(row: &Row, _number: u64) -> Result<CurrentRev, ReadError> {
+        if row.column_count() != 2 {
+            return Err(ReadError::Form);
+        }
+        let batch = number_at(row, 0)?;
+        let rev = number_at(row, 1)?;
+        Ok(CurrentRev { batch, rev })
     }
 }
 

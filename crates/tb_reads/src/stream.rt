@@ -1,16 +1,16 @@
 //! Rows one at a time, while the connection is borrowed: what a walk over the whole treebank reads.
 
-ghost use Rattle.std.specs.Prelude.{◌≡◌, ◌≢◌, map, List, All, Err, IfOk, IfErr, is_ok};
+ghost use Rattle.std.specs.Prelude.{◌≡◌, map, List, All, is_ok};
 ghost use Rattle.tb_reads.specs.Prelude.{FailsOnlyAs, IsFaultless, numbered, Reads, Sentence, sentence_shown};
 ghost use Rattle.tb_reads.specs.Prelude.{sentence_view, Shows};
-ghost use Rattle.tb_reads.specs.Readable.{IsSentence, IsHead};
+ghost use Rattle.tb_reads.specs.Readable.{IsSentence};
 ghost use Rattle.tb_reads.specs.Failing.{HasNoForm, IsReadFault, IsReadWant};
-ghost use Rattle.tb_reads.specs.Streams.{head_of, head_shown};
+ghost use Rattle.tb_reads.specs.Streams.{head_of};
 ghost use Rattle.tb_reads.specs.ReadOnly.{IsReadOnly};
 
 use crate::error::ReadError;
-use crate::records::number_at;
-use sqlite::{Alter, Connection, Error, ErrorCode, Row};
+use crate::records::FromRow;
+use sqlite::{Alter, Connection, Error, ErrorCode};
 use std::alloc::Global;
 
 /// The batch of a sentence and the number of its current revision.
@@ -20,20 +20,6 @@ pub struct CurrentRev {
     pub batch: u32,
     /// The number of the current revision.
     pub rev: u32,
-}
-
-/// The record of a row. This needs no memory.
-fn head_in(row: &Row) -> Result<CurrentRev, ReadError>
-    ensures ok { IfOk result (λ x. row.now ≡ head_shown x) }
-    ensures form { result ≡ Err ReadError.Form → (x : CurrentRev) → IsHead x → row.now ≢ head_shown x }
-    ensures fault { IfErr result (λ e. e ≡ ReadError.Form) }
-{
-    if row.column_count() != 2 {
-        return Err(ReadError::Form);
-    }
-    let batch = number_at(row, 0)?;
-    let rev = number_at(row, 1)?;
-    Ok(CurrentRev { batch, rev })
 }
 
 /// The batch and the current revision of each sentence, by number. One row is in memory at a time.
@@ -59,7 +45,7 @@ pub fn heads<S: Alter>(
         let Some(row) = rows.next()? else {
             return Ok(found);
         };
-        found.push(head_in(row)?)?;
+        found.push(CurrentRev::from_row(row, 0)?)?;
     }
     Err(ReadError::Store(Error::SqliteFailure(ErrorCode::OutOfMemory)))
 }

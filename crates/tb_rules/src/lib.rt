@@ -21,6 +21,7 @@ mod matching;
 mod names;
 mod nodes;
 mod rule;
+mod sentences;
 mod spans;
 mod spelling;
 mod taking;
@@ -38,5 +39,6 @@ pub use laws::{
     broken_rules_of_a_file_are_reported, faulty_sentences_are_not_valid, one_rule_is_reported,
     one_sentence_is_reported,
 };
+pub use sentences::SentenceChecker;
 pub use spelling::restored;
 pub use taking::{Checker, check_all};

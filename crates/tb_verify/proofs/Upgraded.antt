@@ -39,7 +39,7 @@ use Rattle.tb_tables.proofs.Refusing.{IsAllowed, IsWrite, disk_fault, rows_fail,
 use Rattle.tb_tables.proofs.Rowids.{meta_in_range}
 use Rattle.tb_tables.proofs.Sizes.{version_fits}
 use Rattle.tb_tables.proofs.Unique.{keeps_unique}
-use Rattle.tb_tables.proofs.Meaning.{no_index, one_answer}
+use Rattle.tb_tables.proofs.Meaning.{desk_listed, no_index, one_answer}
 use Rattle.tb_verify.specs.Version1.{AreStoredInVersion1, IsInsideFirst, versioned_view}
 
 -- ---- the new table
@@ -112,6 +112,7 @@ version_set old new count inside none h begun =
           let rows = one_answer 0 [] update_version_terms (overlay old.now.trees []) [] e.0 (e.1.answer Null) _ env in
           let given : e.0 ≡ (Int n ∷ Int n ∷ Int (pos 2) ∷ []) ∷ [] = rows ∙ rw id refl in
           let news : edited old.now.trees (edit_of old.now.trees meta (ids_of e.0) Given 1 e.0) ≡ (Int n ∷ Int (pos 2) ∷ []) ∷ [] = rw (given, one.1, cast_int n, cast_int (pos 2), id, same_number n) refl in record {
+            listed = desk_listed new.now w.sound e.2.schema;
             meta = subst (Shows meta_view (number_shown 2 ∷ [])) (sym (e.2.applies.rows ∙ news)) (IsPermutation-refl (number_shown 2 ∷ []));
             batches = subst (Shows batch_view _) (sym (others 1 (λ q. cc) (λ q. cc) (λ q. cc) (λ q. cc))) s.batches;
             sentences = subst (Shows sentence_view _) (sym (others 3 (λ q. cc) (λ q. cc) (λ q. cc) (λ q. cc))) s.sentences;

@@ -1,16 +1,18 @@
 -- From rows to a state without pulls, and back.
-use Rattle.std.proofs.Common.{◌≡◌, ◌≢◌, pos, List, [], ◌∷◌, map, All, cond, nat_eq, sym, ap, ◌∙◌}
+use Rattle.std.proofs.Common.{◌≡◌, ◌≢◌, pos, List, [], ◌∷◌, map, All, cond, nat_eq, refl, sym, ap, ◌∙◌}
 use Rattle.std.specs.List.{AllByRecursion}
 use Rattle.std.proofs.lemmas.List.Elements.{All-from_recursion, recursion_from_All}
 use Rattle.std.proofs.lemmas.List.Sorted.{IsPermutation-refl}
 use Rattle.sqlite.specs.declared.types.Value.TheVariants.{Int}
 use Rattle.sqlite_trees.specs.Tree.{Trees}
+use Rattle.sqlite_trees.specs.Objects.{catalog_tree}
 use Rattle.tb_core.specs.declared.kinds.Kind.{Kind}
 use Rattle.tb_core.specs.declared.kinds.Kind.TheVariants.{Pull, Restore}
 use Rattle.tb_core.specs.Machine.{Machine}
 use Rattle.tb_core.specs.Moves.{MoveText}
 use Rattle.tb_tables.specs.Records.{Tables, Move, AreStored, number_shown}
 use Rattle.tb_tables.specs.Values.{revision_of, move_of}
+use Rattle.tb_tables.proofs.Meaning.{no_list}
 use Rattle.tb_tables.specs.declared.rows.MoveRow.{MoveRow}
 use Rattle.tb_refine.specs.Numbers.{kind_number}
 use Rattle.tb_refine.specs.DeskTables.{tables_of, move_record}
@@ -24,12 +26,14 @@ use Rattle.tb_verify.proofs.NoPulls.{IsNoPull}
 
 -- ---- one list for the rows of version 1, as for those of version 2
 
--- the same trees, with the version and the last table of version 2
+-- the same trees, with the version and the last table of version 2, and a list of objects that lists nothing
 abbrev promoted : Trees → Trees
-promoted trees t = cond (nat_eq t 0) ((Int (pos 1) ∷ Int (pos 2) ∷ []) ∷ []) (cond (nat_eq t 9) [] (trees t))
+promoted trees t =
+    cond (nat_eq t 0) ((Int (pos 1) ∷ Int (pos 2) ∷ []) ∷ []) (cond (nat_eq t 9) [] (cond (nat_eq t catalog_tree) ([] ∷ []) (trees t)))
 
 stands_promoted : (d : Tables) (trees : Trees) → d.pulled ≡ [] → AreStoredInVersion1 d trees → AreStored d (promoted trees)
 stands_promoted d trees unpulled s = record {
+  listed = no_list (promoted trees) refl;
   meta = IsPermutation-refl (number_shown 2 ∷ []);
   batches = s.batches;
   sentences = s.sentences;

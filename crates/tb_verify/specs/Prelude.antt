@@ -16,6 +16,7 @@ pub use Rattle.tb_replay.specs.Fine.{AreFine}
 pub use Rattle.tb_replay.specs.Summaries.{entries_of, entry_of}
 pub use Rattle.tb_tables.specs.Changes.{Holds, IsInside}
 pub use Rattle.tb_tables.specs.Failing.{AreUnique, HasMetaRowids, IsDiskFaultOrWant, IsWant, NeedsNoFault}
+pub use Rattle.tb_tables.specs.Layout.{ListsDesk}
 pub use Rattle.tb_tables.specs.Leaving.{BlamesNoDisk, KeepsCommitted, KeepsRecords}
 pub use Rattle.tb_tables.specs.Records.{AreStored, batch_shown, batch_view, meta_view, move_shown, move_view}
 pub use Rattle.tb_tables.specs.Records.{number_shown, number_view, numbered, Revision, revision_shown, revision_view}

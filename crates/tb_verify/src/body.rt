@@ -5,10 +5,10 @@ ghost use Rattle.tb_verify.specs.Prelude.{AllByRecursion, BlockText, IsLawful};
 ghost use Rattle.tb_verify.specs.Course.{own_text};
 ghost use Rattle.tb_verify.specs.declared.unfit.Unfit.TheVariants.{NotADesk};
 
-use crate::unfit::Unfit;
+use crate::unfit::{Unfit, push};
 use std::alloc::Global;
 use tb_conllu::{BlockRef, read_ref};
-use tb_rules::check;
+use tb_rules::SentenceChecker;
 use tb_tables::RevisionRow;
 
 /// The sentence, if there is exactly one; else `NotADesk`.
@@ -26,19 +26,24 @@ fn only_of<'a>(mut blocks: Vec<BlockRef<'a>>) -> Result<BlockRef<'a>, Unfit>
 }
 
 /// The sentence that has this text and keeps rules 1 to 11.
-fn sentence_in<'a>(alloc: Global, body: &'a str) -> Result<BlockRef<'a>, Unfit>
+fn sentence_in<'a>(
+    alloc: Global,
+    checker: &mut SentenceChecker,
+    body: &'a str,
+) -> Result<BlockRef<'a>, Unfit>
     ensures fine { IfOk result (λ b. IsLawful b × (own_text b ≡ body.now)) }
     ensures unfit { result ≡ Err NotADesk → (b : BlockText) → IsLawful b → own_text b ≡ body.now → ⊥ }
 {
     let blocks = read_ref(alloc, body.as_bytes())?;
     let block = only_of(blocks)?;
-    check(alloc, &block)?;
+    checker.check(&block)?;
     Ok(block)
 }
 
 /// The sentences that have these revisions' texts, in order.
 pub(crate) fn sentences_in<'a>(
     alloc: Global,
+    checker: &mut SentenceChecker,
     rows: &'a [RevisionRow],
 ) -> Result<Vec<BlockRef<'a>>, Unfit>
     ensures lawful { IfOk result (λ v. AllByRecursion IsLawful v.items) }
@@ -49,8 +54,8 @@ pub(crate) fn sentences_in<'a>(
 {
     let mut blocks: Vec<BlockRef<'a>> = Vec::new(alloc);
     for row in rows {
-        let block = sentence_in(alloc, row.body.as_str())?;
-        blocks.push(block)?;
+        let block = sentence_in(alloc, checker, row.body.as_str())?;
+        push(&mut blocks, block)?;
     }
     Ok(blocks)
 }

@@ -20,13 +20,15 @@ use crate::summary::{DeskSummary, summary_of_desk};
 use sqlite::{Alter, Connection};
 use std::alloc::Global;
 use tb_core::Fault;
-use tb_tables::has_desk_schema;
+use tb_tables::{desk_schema_is_listed, has_desk_schema};
 
 /// Whether the connection is in no transaction, and its database has exactly the tables of a desk.
 fn may_be_desk<S: Alter>(conn: &Connection<S>) -> bool
     ensures looks { IsTrue result → LooksLikeDesk S.Store conn.now }
     ensures differs { result ≡ false → (s : Machine) → IsDeskOf S.Store conn.now s → ⊥ }
 {
+    // law: the file lists these tables and no others
+    desk_schema_is_listed(conn);
     conn.is_autocommit() && has_desk_schema(conn)
 }
 

@@ -5,10 +5,11 @@ ghost use Rattle.tb_verify.specs.Prelude.{entries_of, revision_of, Sentence, sen
 ghost use Rattle.tb_verify.specs.File.{AreReadBack, is_next, after_next};
 ghost use Rattle.tb_verify.specs.declared.unfit.Unfit.TheVariants.{Memory, NotADesk};
 
-use crate::entry::entry_in;
-use crate::unfit::{Unfit, fit};
+use crate::entry::entry_by;
+use crate::unfit::{Unfit, fit, push};
 use std::alloc::Global;
 use tb_replay::SentenceSummary;
+use tb_rules::SentenceChecker;
 use tb_tables::{RevisionRow, SentenceRow};
 
 fn first_rows(rows: &[RevisionRow], count: u32) -> &[RevisionRow]
@@ -69,6 +70,7 @@ pub fn entries_in<'a>(
         → AreReadBack 1 (map sentence_of sentences.now) pulled.now (map revision_of revisions.now) xs → ⊥ }
     ensures none { sentences.now ≡ [] → result ≢ Err Memory }
 {
+    let mut checker = SentenceChecker::new(alloc);
     let mut entries: Vec<SentenceSummary<'a>> = Vec::new(alloc);
     let mut rest = revisions;
     let mut left = pulled;
@@ -76,8 +78,15 @@ pub fn entries_in<'a>(
         let number = i as u64 + 1;
         let row = &sentences[i];
         let own = first_rows(rest, row.rev);
-        let entry = entry_in(alloc, number, row, is_pulled_next(number, left), own)?;
-        entries.push(entry)?;
+        let entry = entry_by(
+            alloc,
+            &mut checker,
+            number,
+            row,
+            is_pulled_next(number, left),
+            own,
+        )?;
+        push(&mut entries, entry)?;
         rest = later_rows(rest, row.rev);
         left = later_pulled(number, left);
     }

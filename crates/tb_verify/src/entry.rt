@@ -11,6 +11,7 @@ use crate::unfit::{Unfit, fit};
 use std::alloc::{AllocError, Global};
 use tb_conllu::{BlockRef, one_list_has_a_text, words};
 use tb_replay::{Revision, SentenceSummary};
+use tb_rules::SentenceChecker;
 use tb_tables::{RevisionRow, SentenceRow};
 
 /// The user and the words of each revision.
@@ -33,6 +34,34 @@ fn reported_revisions<'a>(
     Ok(revisions)
 }
 
+/// The sentence with this number, read back from its row and its revisions, as by [`entry_in`]. The checker may have
+/// checked other sentences.
+pub(crate) fn entry_by<'a>(
+    alloc: Global,
+    checker: &mut SentenceChecker,
+    number: u64,
+    row: &SentenceRow,
+    pulled: bool,
+    revisions: &'a [RevisionRow],
+) -> Result<SentenceSummary<'a>, Unfit>
+    ensures fine { IfOk result (λ e. (x : Sentence)
+        × IsReadBack number (sentence_of row.now) pulled (map revision_of revisions.now) x × (e ≡ entry_of x)) }
+    ensures unfit { result ≡ Err NotADesk → (x : Sentence)
+        → IsReadBack number (sentence_of row.now) pulled (map revision_of revisions.now) x → ⊥ }
+    ensures none { revisions.now ≡ [] → result ≡ Err NotADesk }
+{
+    // A text is that of at most one list of sentences, by this law.
+    one_list_has_a_text();
+    let blocks = sentences_in(alloc, checker, revisions)?;
+    fit(is_course_right(number, row, revisions, &blocks))?;
+    let reported = reported_revisions(alloc, revisions, &blocks)?;
+    Ok(SentenceSummary {
+        batch: row.batch as u64,
+        pulled,
+        revisions: reported,
+    })
+}
+
 /// The sentence with this number, read back from its row and its revisions. It borrows the names of users.
 ///
 /// # Errors
@@ -52,14 +81,6 @@ pub fn entry_in<'a>(
         → IsReadBack number (sentence_of row.now) pulled (map revision_of revisions.now) x → ⊥ }
     ensures none { revisions.now ≡ [] → result ≡ Err NotADesk }
 {
-    // A text is that of at most one list of sentences, by this law.
-    one_list_has_a_text();
-    let blocks = sentences_in(alloc, revisions)?;
-    fit(is_course_right(number, row, revisions, &blocks))?;
-    let reported = reported_revisions(alloc, revisions, &blocks)?;
-    Ok(SentenceSummary {
-        batch: row.batch as u64,
-        pulled,
-        revisions: reported,
-    })
+    let mut checker = SentenceChecker::new(alloc);
+    entry_by(alloc, &mut checker, number, row, pulled, revisions)
 }

@@ -4,7 +4,7 @@ ghost use Rattle.std.specs.Prelude.{◌≡◌, [], List, map, true, false, Err, 
 ghost use Rattle.tb_verify.specs.Prelude.{AreNumbered, Batch, batch_of, batch_record, move_of, move_record, MoveText};
 ghost use Rattle.tb_verify.specs.declared.unfit.Unfit.TheVariants.{NotADesk};
 
-use crate::unfit::Unfit;
+use crate::unfit::{Unfit, push};
 use std::alloc::Global;
 use tb_core::{Fault, Move};
 use tb_refine::{read_moves, state_numbered};
@@ -61,7 +61,7 @@ fn collected<'a>(alloc: Global, rows: &'a [BatchRow]) -> Result<Vec<tb_replay::B
     let mut batches: Vec<tb_replay::BatchRow<'a>> = Vec::new(alloc);
     for row in rows {
         let batch = batch_in(row)?;
-        batches.push(batch)?;
+        push(&mut batches, batch)?;
     }
     Ok(batches)
 }

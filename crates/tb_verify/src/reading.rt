@@ -2,7 +2,7 @@
 
 ghost use Rattle.std.specs.Prelude.{◌≡◌, ◌≢◌, ◌↔◌, [], ◌∷◌, map, IsTrue, OnOk, IfErr};
 ghost use Rattle.tb_verify.specs.Prelude.{AreStored, batch_of, batch_shown, batch_view, meta_view, move_of, move_shown};
-ghost use Rattle.tb_verify.specs.Prelude.{move_view, number_shown, number_view, numbered, revision_of, revision_shown};
+ghost use Rattle.tb_verify.specs.Prelude.{ListsDesk, move_view, number_shown, number_view, numbered, revision_of, revision_shown};
 ghost use Rattle.tb_verify.specs.Prelude.{revision_view, sentence_of, sentence_shown, sentence_view, Shows, total_of};
 ghost use Rattle.tb_verify.specs.Prelude.{total_shown, total_view};
 ghost use Rattle.tb_verify.specs.Summary.{tables_in};
@@ -123,8 +123,8 @@ pub(crate) fn read_rows<S: Alter>(
     alloc: Global,
     conn: &mut Connection<S>,
 ) -> Result<TableRows, Fault>
-    ensures { HasReadTable S.Store conn.old conn.new result (λ r trees. AreStored (tables_in r) trees) (λ r d.
-        tables_in r ≡ d) }
+    ensures { HasReadTable S.Store conn.old conn.new result
+        (λ r trees. ListsDesk trees → AreStored (tables_in r) trees) (λ r d. tables_in r ≡ d) }
 {
     one_list_for_the_rows();
     read_version(alloc, conn)?;

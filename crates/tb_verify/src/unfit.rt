@@ -1,10 +1,10 @@
 //! Why rows cannot be read back.
 
-ghost use Rattle.std.specs.Prelude.{◌≡◌, true, false, IfErr, OnOk};
+ghost use Rattle.std.specs.Prelude.{◌≡◌, ◌++◌, ◌∷◌, [], true, false, IfErr, OnOk};
 ghost use Rattle.tb_verify.specs.Unfit.{unfit_of_reading, unfit_of_rules};
 ghost use Rattle.tb_verify.specs.declared.unfit.Unfit.TheVariants.{Memory, NotADesk};
 
-use std::alloc::{AllocError, AllocFailed};
+use std::alloc::AllocError;
 use tb_conllu::ReadFault;
 use tb_rules::RuleFault;
 
@@ -47,14 +47,6 @@ impl From<AllocError> for Unfit {
     }
 }
 
-impl<T: Drop> From<AllocFailed<T>> for Unfit {
-    ghost from_gives = { λ _ e. e ≡ Memory };
-
-    fn from(_: AllocFailed<T>) -> Self {
-        Unfit::Memory
-    }
-}
-
 /// Nothing where the rows are right, and `NotADesk` where they are not. This needs no memory.
 pub(crate) fn fit(are_right: bool) -> Result<(), Unfit>
     ensures right { OnOk result (are_right ≡ true) }
@@ -63,5 +55,13 @@ pub(crate) fn fit(are_right: bool) -> Result<(), Unfit>
     if !are_right {
         return Err(Unfit::NotADesk);
     }
+    Ok(())
+}
+
+/// Appends to the list. What does not fit into memory is let go.
+pub(crate) fn push<T: Drop>(list: &mut Vec<T>, next: T) -> Result<(), AllocError>
+    ensures items { OnOk result (list.new.items ≡ list.old.items ++ next ∷ []) }
+{
+    list.push(next)?;
     Ok(())
 }

@@ -60,12 +60,12 @@ rows-preserved g c =
       λ clean has.
           let so_far = inv.2 (omega (arith, moved.survives.clean)) has in
           let gave = (rw (c.in_ok-row.was, c.in-Some.is) at (moved.ok clean)) select_heads [] (map head_shown c.rows.found.items) so_far in
-          let next = shown_push head_shown c.rows.found.items c.in_ok-head_in.field-0 c.in-Some.row.now c.in_ok-head_in.ensures.ok in
+          let next = shown_push head_shown c.rows.found.items c.in_ok-from_row.field-0 c.in-Some.row.now c.in_ok-from_row.ensures.ok in
           subst (HasGiven g.S.Store select_heads [] c.next.follows.lender-at-none.conn.now) (next ∙ ap (map head_shown) (sym c.in_ok-push.ensures.items)) gave,
     )
 
-pub returns-in_err-head_in-clause-form : goal.returns-in_err-head_in-clause-form
-returns-in_err-head_in-clause-form g c clean reported has xs each holds =
+pub returns-in_err-from_row-clause-form : goal.returns-in_err-from_row-clause-form
+returns-in_err-from_row-clause-form g c clean reported has xs each holds =
     let moved = c.next.follows.holds-at-none in
     let old = state g.S.Store c.args.conn.now in
     let mid = state g.S.Store c.rows.rows.conn.now in
@@ -81,9 +81,9 @@ returns-in_err-head_in-clause-form g c clean reported has xs each holds =
     let has_now : now.now.schema ≡ desk_schema = ap (λ (d : Database). d.schema) same.0.now_is ∙ has in
     let more = begun_answer g.S.Store select_heads (simple 3 [] select_heads_terms (rising 0 ∷ [])) _ conn (given ++ row ∷ []) select_heads_is.0 select_heads_is.1 select_heads_is.2 has_now gave in
     let here = subst (λ (d : Database). Shows sentence_view (numbered sentence_shown 1 xs) (d.trees 3)) (sym same.0.now_is) holds in
-    let reported_is = err_from_is_err_and c.from_residual-in_err-head_in.result c.from_residual-in_err-head_in.ensures.1 in
-    let failed : c.head_in.result ≡ Err Form = let err = c.in_err-head_in.was in let is = reported_is.1 in let alike = reported_is.2 in cc in
-    not_among IsHead head_shown given row more.0 (map head_of xs) (heads_readable xs each) (heads_all now.now.trees _ more.1 xs here) (c.head_in.ensures.form failed)
+    let reported_is = err_from_is_err_and c.from_residual-in_err-from_row.result c.from_residual-in_err-from_row.ensures.1 in
+    let failed : c.from_row.result ≡ Err Form = let err = c.in_err-from_row.was in let is = reported_is.1 in let alike = reported_is.2 in cc in
+    not_among IsHead head_shown given row more.0 (map head_of xs) (heads_readable xs each) (heads_all now.now.trees _ more.1 xs here) (c.from_row.ensures.form failed)
 
 pub returns-in_err-rows-clause-fails : goal.returns-in_err-rows-clause-fails
 returns-in_err-rows-clause-fails g c clean unlimited has =
@@ -149,12 +149,12 @@ returns-in_default-clause-read_only g c =
     let here : IsReadOnly g.S.Store c.args.conn.now conn true = read_then c.rows.invariant.1 row in
     search rules
 
-pub returns-in_err-head_in-clause-read_only : goal.returns-in_err-head_in-clause-read_only
-returns-in_err-head_in-clause-read_only g c =
+pub returns-in_err-from_row-clause-read_only : goal.returns-in_err-from_row-clause-read_only
+returns-in_err-from_row-clause-read_only g c =
     let moved = c.next.follows.holds-at-none in
     let conn = c.next.follows.lender-at-none.conn.now in
     let row = row_given g.S.Store c.rows.rows.conn.now conn (λ clean. rw c.in_ok-row.was at (moved.same clean)) moved.mode moved.survives in
-    let here : IsReadOnly g.S.Store c.args.conn.now conn (is_ok c.from_residual-in_err-head_in.result) = read_on _ (read_then c.rows.invariant.1 row) in
+    let here : IsReadOnly g.S.Store c.args.conn.now conn (is_ok c.from_residual-in_err-from_row.result) = read_on _ (read_then c.rows.invariant.1 row) in
     search rules
 
 pub returns-in_err-push-clause-read_only : goal.returns-in_err-push-clause-read_only

@@ -10,8 +10,8 @@ use Rattle.tb_verify.proofs.desk.read_desk.Goals as goal
 pub returns-clause-answered : goal.returns-clause-answered
 returns-clause-answered g c clean =
     let looks = c.may_be_desk.ensures.looks c.if-not-may_be_desk.false in
-    let stored = c.in_ok-rows.ensures.shown clean looks.schema in
     let same = c.in_ok-rows.ensures.read_only.unchanged clean looks.schema in
+    let stored = c.in_ok-rows.ensures.shown clean looks.schema (looks.listed same.0.was_open) in
     if_ok c.summary_of_desk.result c.summary_of_desk.ensures.summary (λ x reported.
     let desk = desk_of_rows g.S.Store c.args.conn.now c.read_rows.new.conn c.in_ok-rows.rows reported.0 looks same stored reported.1 reported.2 in
     (reported.0, desk, desk_same g.S.Store c.args.conn.now c.read_rows.new.conn reported.0 desk same, reported.3))

@@ -28,7 +28,7 @@ loop-i-preserved c =
     let parts = mapped_drop sentence_of c.args.sentences.now i row (omega (arith, c.loop-i-test.true)) c.index-sentences-i.is in
     let own = ap (map revision_of) c.first_rows-own.ensures ∙ map_taken revision_of row.rev c.loop-i.rest.now in
     let read = c.in_ok-entry.ensures.fine in
-    turn (map sentence_of c.args.sentences.now) c.args.pulled.now (map revision_of c.args.revisions.now) c.loop-i.entries.items c.push.new.self.items (i + 1) (map sentence_of (drop i c.args.sentences.now)) (sentence_of row)
+    turn (map sentence_of c.args.sentences.now) c.args.pulled.now (map revision_of c.args.revisions.now) c.loop-i.entries.items c.push.new.list.items (i + 1) (map sentence_of (drop i c.args.sentences.now)) (sentence_of row)
     (map sentence_of (drop (i + 1) c.args.sentences.now)) c.loop-i.left.now c.later_pulled-left.result.now rest (map revision_of c.later_rows-rest.result.now) read.0 parts c.later_pulled-left.ensures
     (ap (map revision_of) c.later_rows-rest.ensures ∙ map_dropped revision_of row.rev c.loop-i.rest.now) (c.in_ok-push.ensures.items ∙ ap (λ z. c.loop-i.entries.items ++ z ∷ []) read.2) c.loop-i.invariant
     (read_with (i + 1) (sentence_of row) c.is_pulled_next.result (is_next (i + 1) c.loop-i.left.now) (map revision_of c.first_rows-own.result.now) (take row.rev rest) read.0 c.is_pulled_next.ensures own read.1)

@@ -72,9 +72,9 @@ returns g c =
       totals = c.in_ok-totals.totals;
       pulled = c.in_ok-pulled.pulled;
     } in
-    read_as g.S.Store c.args.conn.now c.read_pulled.new.conn c.in_ok-pulled.pulled rows _ _ _ _ (λ t h. record { meta = h.0.0.0.0.0.0; batches = h.0.0.0.0.0.1; sentences = h.0.0.0.0.1; revisions = h.0.0.0.1; moves = h.0.0.1; totals = h.0.1; pulled = h.1 })
+    read_as g.S.Store c.args.conn.now c.read_pulled.new.conn c.in_ok-pulled.pulled rows _ _ _ _ (λ t h listed. record { listed = listed; meta = h.0.0.0.0.0.0; batches = h.0.0.0.0.0.1; sentences = h.0.0.0.0.1; revisions = h.0.0.0.1; moves = h.0.0.1; totals = h.0.1; pulled = h.1 })
     (λ t d stands h i.
-    let whole : AreStored (tables_in rows) t = record { meta = h.0.0.0.0.0.0; batches = h.0.0.0.0.0.1; sentences = h.0.0.0.0.1; revisions = h.0.0.0.1; moves = h.0.0.1; totals = h.0.1; pulled = h.1 } in
+    let whole : AreStored (tables_in rows) t = record { listed = stands.listed; meta = h.0.0.0.0.0.0; batches = h.0.0.0.0.0.1; sentences = h.0.0.0.0.1; revisions = h.0.0.0.1; moves = h.0.0.1; totals = h.0.1; pulled = h.1 } in
     let same = c.one_list_for_the_rows.ensures (tables_in rows) d t whole stands in
     λ j. record { batches = same.batches j; sentences = same.sentences j; revisions = i.0.0.0.1 j; moves = same.moves j; totals = same.totals j; pulled = i.1 j })
     pulled

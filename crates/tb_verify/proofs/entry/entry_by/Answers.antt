@@ -8,7 +8,7 @@ use Rattle.tb_verify.proofs.Rereading.{texts_back, course_of, read_back, reporte
 use Rattle.tb_verify.proofs.Turns.{bodies_reported}
 use Rattle.tb_verify.proofs.Uncounted.{no_course}
 use Rattle.tb_verify.proofs.Unreported.{passed_on_as, unfit_as}
-use Rattle.tb_verify.proofs.entry.entry_in.Goals as goal
+use Rattle.tb_verify.proofs.entry.entry_by.Goals as goal
 
 pub returns-in_err-blocks-clause-unfit : goal.returns-in_err-blocks-clause-unfit
 returns-in_err-blocks-clause-unfit c = λ q x h.
