@@ -8,7 +8,8 @@ ghost use Rattle.tb_core.specs.Machine.{sent_id_of};
 ghost use Rattle.tb_report.specs.Keywords.{after, before, joined, key_of, keyword_line, of_hit};
 ghost use Rattle.tb_rules.specs.Rules.{KeepsRules};
 
-use crate::words::{after_words, first_value, push_words, put_words};
+use crate::keys::KeyWalk;
+use crate::words::{after_words, push_words, put_words};
 use std::alloc::{AllocError, Global};
 use tb_conllu::{BlockOf, RowOf, Sink, Text, put_number};
 use tb_rules::sent_id;
@@ -137,11 +138,7 @@ pub fn word_key<T: Text>(block: &BlockOf<T>, hit: (u32, u32), column: Attr) -> O
     requires last { hit.1 ≤ words_of block.now }
     ensures { MatchOption result (hit.0 + 1 < hit.1) (λ value. value.now ≡ key_of column block.now hit) }
 {
-    let (start, end) = hit;
-    if start + 1 < end {
-        return None;
-    }
-    first_value(after_words(&block.rows, start as usize), column)
+    KeyWalk::new(block).word_key(hit, column)
 }
 
 /// The values of a hit's words in one column, with one space between each two.

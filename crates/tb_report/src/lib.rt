@@ -10,6 +10,7 @@ mod csvs;
 mod fault;
 mod faults;
 mod freq;
+mod keys;
 mod keyword;
 mod laws;
 mod table;
@@ -18,6 +19,7 @@ mod words;
 pub use fault::ReportFault;
 pub use faults::{FaultRow, faults_text};
 pub use freq::Freq;
+pub use keys::KeyWalk;
 pub use keyword::{key, kwic, kwic_named, word_key};
 pub use laws::{
     counts_sum_to_keys, keys_have_one_table, order_of_keys_is_nothing, table_has_one_ranking,

@@ -14,7 +14,7 @@ use std::alloc::Global;
 use tb_conllu::BlockRef;
 use tb_query::Attr;
 use tb_reads::ReadError;
-use tb_report::{Freq, key, word_key};
+use tb_report::{Freq, KeyWalk, key};
 
 /// Nothing where one more key can be counted. A number past 64 bits is reported as want of memory: no memory holds so
 /// many hits.
@@ -47,27 +47,28 @@ fn count_key(key: &str, table: &mut Freq) -> Result<(), Stopped>
 /// Counts the key of one hit. A word whose value was counted before takes no memory.
 fn count_hit(
     alloc: Global,
-    block: &BlockRef<'_>,
+    walk: &mut KeyWalk<'_, &str>,
     hit: (u32, u32),
     column: Attr,
     table: &mut Freq,
 ) -> Result<(), Stopped>
     requires first { hit.0 < hit.1 }
-    requires last { hit.1 ≤ words_of block.now }
+    requires last { hit.1 ≤ words_of walk.old }
     ensures counted { OnOk result ((keys : List (List ℕ)) → IsTableOf keys table.old
-        → IsTableOf (keys ++ key_of column block.now hit ∷ []) table.new) }
-    ensures known { hit.1 ≡ hit.0 + 1 → 0 < count_in table.old (key_of column block.now hit)
+        → IsTableOf (keys ++ key_of column walk.old hit ∷ []) table.new) }
+    ensures known { hit.1 ≡ hit.0 + 1 → 0 < count_in table.old (key_of column walk.old hit)
         → total_of table.old < 2 ^ 64 - 1 → IsOk result }
+    ensures unchanged { walk.new ≡ walk.old }
     ensures never_refuses { result ≢ Err Stopped.Output }
     ensures fault { IfErr result IsFault }
     ensures fails { IfErr result IsStopFault }
     ensures cause { IfErr result IsStopWant }
 {
     has_room(table.total())?;
-    if let Some(value) = word_key(block, hit, column) {
+    if let Some(value) = walk.word_key(hit, column) {
         return count_key(value, table);
     }
-    let key = key(alloc, block, hit, column)?;
+    let key = key(alloc, walk.sentence(), hit, column)?;
     count_key(key.as_str(), table)?;
     Ok(())
 }
@@ -89,8 +90,9 @@ fn count_hits(
     ensures cause { IfErr result IsStopWant }
     ensures sure { hits.now ≡ [] → IsOk result }
 {
+    let mut walk = KeyWalk::new(block);
     for hit in hits {
-        count_hit(alloc, block, *hit, column, table)?;
+        count_hit(alloc, &mut walk, *hit, column, table)?;
     }
     Ok(())
 }
