@@ -1,5 +1,5 @@
 -- A question asks the connection of a desk: what the read leaves of the connection, the question leaves of the desk.
-use Rattle.std.proofs.Common.{◌≡◌, None, refl, subst, is_ok, Result}
+use Rattle.std.proofs.Common.{◌≡◌, ◌∙◌, ap, None, refl, subst, is_ok, Result}
 use Rattle.sqlite.specs.Store.{Ghosts}
 use Rattle.sqlite.specs.Held.{Held, state}
 use Rattle.sqlite.proofs.StateLemmas.{survives_weaker}
@@ -13,6 +13,10 @@ use Rattle.tb_store.specs.Calls.{KnowsItself}
 use Rattle.tb_store.specs.Blaming.{FailsWithoutDevice}
 use Rattle.tb_store.specs.Questions.{IsQuestion}
 use Rattle.tb_store.proofs.Represented.{still_stands}
+
+-- a desk whose connection is as it was is the same
+pub unasked : {S : Type 0} {d e : Kept S} (same : d ≡ e) (after : Held S) → after ≡ d.conn → record d { conn = after } ≡ e
+unasked {d = d} same after is = ap (λ h. record d { conn = h }) is ∙ same
 
 -- `d` and `e` are the desk before the question, and `after` is the connection after the read
 module _ {S X : Type 0} (g : Ghosts S) {d e : Kept S} (same : d ≡ e) (after : Held S) (r : Result X Fault) (unlimited : d.conn.step_limit ≡ None)

@@ -1,5 +1,5 @@
 -- What a desk that stands for a state knows, and what a read leaves of it.
-use Rattle.std.proofs.Common.{◌≡◌, ℕ, List, Bool, ◌<◌, ◌≤◌, length, refl, sym, subst, arith, inr, Result, Ok, Err, IfErr}
+use Rattle.std.proofs.Common.{◌≡◌, ℕ, List, Bool, ◌<◌, ◌≤◌, ◌⊎◌, length, refl, sym, subst, arith, inl, inr, Result, Ok, Err, IfErr}
 use Rattle.std.proofs.lemmas.Option.{slice_get_within}
 use Rattle.sqlite.specs.Store.{Ghosts}
 use Rattle.sqlite.specs.Held.{Held}
@@ -19,6 +19,10 @@ use Rattle.tb_import.specs.Planned.{IsKnown}
 use Rattle.tb_store.specs.Kept.{Kept, known_of}
 use Rattle.tb_store.specs.Represents.{Represents}
 use Rattle.tb_store.specs.Answers.{HasNoRevision, RefusesId, RefusesRevision}
+
+-- a number that a sentence has is neither 0 nor above all numbers
+pub is_within : (n number many : ℕ) → n ≡ number → 0 < n → n ≤ many → (number ≡ 0) ⊎ (many < number) → ⊥
+is_within n number many same above below lacks = elim lacks [ inl zero ↦ omega (arith, same, above, zero) | inr over ↦ omega (arith, same, below, over) ]
 
 module _ {S : Type 0} (g : Ghosts S) where
   pub still_stands : (d : Kept S) (conn : Held S) (s : Machine) → IsDeskOf g conn s → Represents g d s → Represents g (record d { conn = conn }) s

@@ -6,6 +6,7 @@ pub mod Exports
 pub mod Found
 pub mod Calls
 pub mod Handing
+pub mod GivenUp
 pub mod Reopened
 pub mod Blaming
 pub mod Questions

@@ -162,6 +162,7 @@ pub(crate) fn sentences<S: Alter>(
 ) -> Result<Vec<SentenceLine>, Fault>
     ensures answered { Tells S.Store conn.old conn.new result (λ s v. AreSentences s name.now v.items) }
     ensures bad_name { is_name name.now ≡ false → result ≡ Err (Fault.Refused Refusal.BadName) }
+    ensures unasked { is_name name.now ≡ false → conn.new ≡ conn.old }
     ensures refused { TellsOnErr S.Store conn.old conn.new result (λ s e. RefusesBatch s name.now e) }
     ensures fails { KnowsDesk S.Store conn.old conn.new result }
     ensures cause { IsFaultless S.Store conn.old conn.new → FailsOnlyAs IsNoDevice S.Store conn.old conn.new result }

@@ -19,7 +19,7 @@ ghost use Rattle.tb_store.specs.Handing.{TellsOpen, TellsShut, TellsWant, WantsO
 
 mod naming;
 mod releasing;
-mod resuming;
+pub(crate) mod resuming;
 
 use crate::answers::Current;
 use crate::wanting::certain;
@@ -344,6 +344,7 @@ impl<S: Alter> Desk<S> {
         ensures refused { (s : Machine) → Represents S.Store self.old s
             → (result ≡ Err (Fault.Refused Refusal.NoSuchSentence)) ↔ HasNoSentence s number }
         ensures alone { (r : AnyRefusal) → result ≡ Err (Fault.Refused r) → r ≡ Refusal.NoSuchSentence }
+        ensures unasked { (number ≡ 0) ⊎ (self.old.sentences < number) → self.new ≡ self.old }
         ensures output { result ≢ Err Fault.Output }
         ensures question { IsQuestion S.Store self.old self.new result }
     {
@@ -363,6 +364,7 @@ impl<S: Alter> Desk<S> {
             IsRevisionText s number rev (string_bytes t)) }
         ensures no_sentence { (s : Machine) → Represents S.Store self.old s → HasNoSentence s number
             → result ≡ Err (Fault.Refused Refusal.NoSuchSentence) }
+        ensures unasked { (number ≡ 0) ⊎ (self.old.sentences < number) → self.new ≡ self.old }
         ensures refused { GivesOnErr S.Store self.old self.new result (λ s e. RefusesRevision s number rev e) }
         ensures output { result ≢ Err Fault.Output }
         ensures question { IsQuestion S.Store self.old self.new result }
@@ -384,6 +386,7 @@ impl<S: Alter> Desk<S> {
         ensures refused { (s : Machine) → Represents S.Store self.old s
             → (result ≡ Err (Fault.Refused Refusal.NoSuchSentence)) ↔ HasNoSentence s number }
         ensures alone { (r : AnyRefusal) → result ≡ Err (Fault.Refused r) → r ≡ Refusal.NoSuchSentence }
+        ensures unasked { (number ≡ 0) ⊎ (self.old.sentences < number) → self.new ≡ self.old }
         ensures output { result ≢ Err Fault.Output }
         ensures question { IsQuestion S.Store self.old self.new result }
     {
@@ -402,6 +405,7 @@ impl<S: Alter> Desk<S> {
     pub fn sentences(&mut self, name: &str) -> Result<Vec<SentenceLine>, Fault>
         ensures answered { Gives S.Store self.old self.new result (λ s v. AreSentences s name.now v.items) }
         ensures bad_name { is_name name.now ≡ false → result ≡ Err (Fault.Refused Refusal.BadName) }
+        ensures unasked { is_name name.now ≡ false → self.new ≡ self.old }
         ensures refused { GivesOnErr S.Store self.old self.new result (λ s e. RefusesBatch s name.now e) }
         ensures output { result ≢ Err Fault.Output }
         ensures question { IsQuestion S.Store self.old self.new result }

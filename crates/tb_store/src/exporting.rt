@@ -51,6 +51,7 @@ pub(crate) fn batch<S: Alter, W: Sink>(
     ensures part { TellsOnErr S.Store conn.old conn.new result (λ s e. IsPartOfBatch s name.now e (W.held out.old)
         (W.held out.new)) }
     ensures bad_name { is_name name.now ≡ false → result ≡ Err (Fault.Refused Refusal.BadName) }
+    ensures unasked { is_name name.now ≡ false → conn.new ≡ conn.old }
     ensures refused { TellsOnErr S.Store conn.old conn.new result (λ s e. RefusesBatch s name.now e) }
     ensures output { result ≡ Err Fault.Output → HasReason (W.IsRefusal out.new) }
     ensures fails { KnowsDesk S.Store conn.old conn.new result }

@@ -1,19 +1,13 @@
 //! What the next run finds of a desk after a crash.
 
-ghost use Rattle.std.specs.Prelude.{◌≡◌, IsTrue};
-ghost use Rattle.tb_store.specs.Prelude.{Image, IsClean, IsDeskOf, Machine, over_files, state, view};
+ghost use Rattle.tb_store.specs.Prelude.{Image, IsClean, IsDeskOf, Machine, over_files, view};
 ghost use Rattle.tb_store.specs.Represents.{Represents};
 ghost use Rattle.tb_store.specs.Reopened.{MayLeaveFiles, IsOpenedOver};
 
 use crate::desk::Desk;
-use sqlite::{Alter, Connection, FileStore};
+use crate::desk::resuming::given_up_in_file;
+use sqlite::{Connection, FileStore};
 use sqlite_disk::Disk;
-
-/// While the store is open, a crash leaves the trees of the last commit and nothing else.
-fn leaves_the_last_commit<S: Alter>(_conn: &Connection<S>)
-    ensures { (db : _) → IsTrue (state S.Store _conn.now).is_open → (state S.Store _conn.now).may_leave db
-        → db ≡ (state S.Store _conn.now).committed.trees }
-{}
 
 /// A crash leaves the desk to the next run.
 ///
@@ -28,8 +22,5 @@ pub fn left_to_the_next_run<D: Disk + Drop, E: Disk>(
         → MayLeaveFiles desk.conn left → IsOpenedOver left _next.now
         → ∥ IsDeskOf over_files _next.now s ∥₁ }
 {
-    let conn = desk.into_connection();
-    let _schema = conn.schema();
-    leaves_the_last_commit(&conn);
-    conn.into_store()
+    given_up_in_file(desk)
 }

@@ -76,6 +76,7 @@ pub(crate) fn certain<S: Alter>(
     ensures refused { HandsOnRefusal conn.old conn.new fault result }
     ensures desk { result ≡ Fault.NotADesk → fault ≡ Fault.NotADesk }
     ensures other { fault ≢ Fault.Memory → result ≡ fault }
+    ensures unasked { fault ≢ Fault.Memory → (conn.new ≡ conn.old) × (in_doubt.new ≡ in_doubt.old) }
     ensures device { result ≡ Fault.Device → (fault ≡ Fault.Device) ⊎ (fault ≡ Fault.Memory) }
     ensures output { result ≡ Fault.Output → fault ≡ Fault.Output }
     ensures cause { fault ≢ Fault.Device → BlamesForWant S.Store conn.old conn.new in_doubt.new result }

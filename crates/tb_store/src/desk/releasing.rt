@@ -53,6 +53,7 @@ impl<S: Alter> Desk<S> {
         ensures part { GivesOnErr S.Store self.old self.new result (λ s e. IsPartOfBatch s name.now e (W.held out.old)
             (W.held out.new)) }
         ensures bad_name { is_name name.now ≡ false → result ≡ Err (Fault.Refused Refusal.BadName) }
+        ensures unasked { is_name name.now ≡ false → self.new ≡ self.old }
         ensures refused { GivesOnErr S.Store self.old self.new result (λ s e. RefusesBatch s name.now e) }
         ensures output { result ≡ Err Fault.Output → HasReason (W.IsRefusal out.new) }
         ensures none { (r : AnyRefusal) → result ≡ Err (Fault.Refused r) → W.held out.new ≡ W.held out.old }

@@ -15,6 +15,7 @@ pub returns-clause-answered : goal.returns-clause-answered
 returns-clause-answered g c clean = rw c.reported.ensures.value (reported_if fault_of_read _ c.totals.result (if_ok c.totals.result (c.totals.ensures.ok clean) (λ v read s desk.
     let stands = desk.holds.stands in
     (c.one_list_for_the_rows.ensures (record (tables_of s) { totals = map total_of v.items }) (tables_of s) ((state g.S.Store c.args.conn.now).now.trees) (record {
+      listed = stands.listed;
       meta = stands.meta;
       batches = stands.batches;
       sentences = stands.sentences;

@@ -1,8 +1,9 @@
 use Rattle.std.proofs.Common.{◌∙◌, sym, ap, subst, arith, Err}
 use Rattle.tb_reads.proofs.Shown.{if_ok}
+use Rattle.tb_store.specs.Kept.{Kept}
 use Rattle.tb_store.specs.Represents.{Represents}
 use Rattle.tb_refine.proofs.There.{sentence_there}
-use Rattle.tb_store.proofs.Represented.{err_is, refuses_revision}
+use Rattle.tb_store.proofs.Represented.{err_is, refuses_revision, is_within}
 use Rattle.tb_store.proofs.Questions.{asked_of}
 use Rattle.tb_store.proofs.desk.Desk.revision.Goals as goal
 
@@ -39,3 +40,9 @@ returns-clause-refused g c clean = err_is c.revision.result (λ e is s stands.
     refuses_revision s c.args.number c.args.rev e (λ r same.
     let reported = c.revision.ensures.refused clean r (is ∙ ap Err same) in
     (reported.0, (_, it.0, it.2, reported.1 s here.desk it.0 it.1))))
+
+pub returns-clause-unasked : goal.returns-clause-unasked
+returns-clause-unasked g c lacks =
+    let fits = c.in-Some.ensures.stands in
+    let same = ap (λ (k : Kept _). k.sentences) c.self.view_is in
+    absurd (is_within c.in-Some.number c.args.number c.args.self.now.sentences fits.0 fits.1 (omega (arith, fits.2, same)) lacks)

@@ -1,8 +1,10 @@
 use Rattle.std.proofs.Common.{◌∙◌, ap, sym, subst, arith}
 use Rattle.tb_reads.proofs.Shown.{if_ok}
 use Rattle.tb_lists.specs.Revisions.{revision_lines}
+use Rattle.tb_store.specs.Kept.{Kept}
 use Rattle.tb_store.specs.Represents.{Represents}
 use Rattle.tb_refine.proofs.There.{sentence_there}
+use Rattle.tb_store.proofs.Represented.{is_within}
 use Rattle.tb_store.proofs.Questions.{asked_of}
 use Rattle.tb_store.proofs.desk.Desk.revisions.Goals as goal
 
@@ -30,3 +32,9 @@ returns-clause-refused g c s stands =
     let fits = c.in-Some.ensures.stands in
     let it = sentence_there s c.args.number c.in-Some.number fits.0 fits.1 (omega (arith, fits.2, stands.sentences, here.sentences)) in
     ((λ e place x has. c.list_revisions.ensures.read.never_refuses _ e), (λ lacks. absurd (lacks _ it.0 it.2)))
+
+pub returns-clause-unasked : goal.returns-clause-unasked
+returns-clause-unasked g c lacks =
+    let fits = c.in-Some.ensures.stands in
+    let same = ap (λ (k : Kept _). k.sentences) c.self.view_is in
+    absurd (is_within c.in-Some.number c.args.number c.args.self.now.sentences fits.0 fits.1 (omega (arith, fits.2, same)) lacks)

@@ -1,20 +1,19 @@
-use Rattle.std.proofs.Common.{◌≤◌, subst}
-use Rattle.sqlite_store.specs.FileStore.{view, recovers}
-use Rattle.sqlite_trees.specs.Tree.{Trees}
-use Rattle.sqlite_trees.specs.View.{doubt}
+use Rattle.std.proofs.Common.{subst, sym}
+use Rattle.std.proofs.Math.Logic.{∥∥₁_map}
 use Rattle.tb_refine.specs.Counted.{IsWithin}
-use Rattle.tb_store.proofs.Resumed.{resumed}
+use Rattle.tb_store.specs.Reopened.{IsBeforeOrAfter}
+use Rattle.tb_store.proofs.Resumed.{one_desk, resumed}
 use Rattle.tb_store.proofs.desk.resuming.stopped_in_a_command.Goals as goal
 
-pub returns : goal.returns
-returns g c old command s r left crash stands same clean may opened again =
-    let is = c.into_connection-conn.ensures in
-    let store = c.into_store.result in
-    let quiet = c.into_store.ensures.quiet in
-    let within = subst IsWithin same c.limits_are_within.ensures in
-    resumed old c.args.desk command s r c.args._next.now c.one_state_for_the_file.ensures
+pub returns-clause-adopted : goal.returns-clause-adopted
+returns-clause-adopted g c old command s left crash stands same clean may opened =
+    let up = c.given_up_in_file.ensures in
+    let within = subst IsWithin same up.within in
+    resumed old c.args.desk command s c.args._next.now
     (λ t a steps. c.commands_stay_within_limits.ensures old.limits s t command a within.sentences within.moves stands.desk.reachable steps)
-    stands (c.desks_are_left_whole.ensures old s stands) crash again store
-    (subst (λ h. (db : Trees) → recovers store db → recovers h.store db) is quiet.outcomes)
-    (subst (λ h. doubt (view h.store).is_clean ≤ doubt (view store).is_clean) is quiet.clean)
-    clean (c.into_store.ensures.numbered clean) (c.into_store.ensures.sound clean) left may opened.found
+    stands (up.whole old s stands) crash opened.opened c.given_up_in_file.result up.quiet.outcomes up.quiet.clean clean (up.numbered clean) (up.sound clean) left may opened.found
+
+pub returns-clause-one : goal.returns-clause-one
+returns-clause-one g c old command s r left crash stands same clean may opened again =
+    ∥∥₁_map (returns-clause-adopted g c old command s left crash stands same clean may opened) (λ it.
+    subst (IsBeforeOrAfter old.limits s command) (sym (one_desk c.args._next.now r it.0 c.one_state_for_the_file.ensures again it.1)) it.2)
