@@ -17,6 +17,7 @@ mod QueryBraces
 mod QueryChars
 mod QueryCuts
 mod QueryFaults
+mod QueryPatterns
 mod QueryScan
 mod RuleSteps
 mod Spellings

@@ -5,11 +5,8 @@ use Rattle.std.proofs.Common.{chars, cond, encode_utf8_all, inl, inr, IsCharBoun
 use Rattle.std.proofs.lemmas.Bool.{and_parts, false≢true}
 use Rattle.std.proofs.lemmas.Str.{IsCharBoundary-at_seam, encodes-append, encodes-chars, scalars-chars}
 use Rattle.std.specs.List.{AllByRecursion}
-use Rattle.tb_words.specs.QueryLiterals.{AreLiterals, KnowsLiterals, literal_numbered, quoted}
+use Rattle.tb_words.specs.QueryLiterals.{AreLiterals, IsCut, KnowsLiterals, literal_numbered, quoted}
 use Rattle.tb_words.specs.declared.literals.Literal.{Literal}
-
-abbrev pub IsCut : List ℕ → Literal → Type 0
-IsCut text l = IsCharBoundary text l.start × IsCharBoundary text l.end × (l.start ≤ l.end)
 
 scalars_after : (xs ys : List ℕ) → scalars (xs ++ ys) ≡ true → scalars ys ≡ true
 scalars_after [] ys is = is

@@ -15,7 +15,8 @@ use Rattle.tb_query.specs.declared.fault.QueryFault.{QueryFault}
 use Rattle.tb_query.specs.declared.fault.QueryFault.TheVariants as fault
 use Rattle.tb_words.specs.QueryGuesses.{guess}
 use Rattle.tb_words.specs.QueryLiterals.{KnowsLiterals, is_in, literal_numbered, written}
-use Rattle.tb_words.specs.QueryPlaces.{IsFirstWrong, IsNoneWrong, IsPicture, SaysPattern, open_at}
+use Rattle.tb_words.specs.QueryPatterns.{StopsAt}
+use Rattle.tb_words.specs.QueryPlaces.{IsFirstWrong, IsNoneWrong, IsPicture, open_at}
 use Rattle.tb_words.specs.QueryWords.{character_number}
 use Rattle.tb_words.specs.Shown.{excerpt}
 use Rattle.tb_words.specs.declared.literals.Literal.{Literal}
@@ -140,11 +141,12 @@ PointAt words text at =
 abbrev pub SaysAlone : Words → (text : List ℕ) → Type 0
 SaysAlone words text = (words.sentence.now ≡ text) × (words.place ≡ None) × (words.picture ≡ None)
 
--- a text is so before a byte and after it, and so many brackets and parentheses are open there
+-- a text is so before a byte and after it, and so many brackets, parentheses and braces are open there
 abbrev pub IsWrongAt : (text : List ℕ) → List Literal → (at : ℕ) → Wrong → Type 0
 IsWrongAt text ls at wrong =
     (wrong.before.now ≡ trim_end (take at text)) × (wrong.rest.now ≡ drop at text)
     × (wrong.brackets ≡ open_at text ls at 91 93) × (wrong.parentheses ≡ open_at text ls at 40 41)
+    × (wrong.braces ≡ open_at text ls at 123 125)
 
 -- what is most likely meant at a byte of a text with these literals
 abbrev pub IsGuess : (text : List ℕ) → List Literal → (at : ℕ) → (said : List ℕ) → Type 0
@@ -156,11 +158,16 @@ SaysRepetition text ls words =
     ((at : ℕ) × IsFirstWrong text ls at words.sentence.now × PointAt words text at)
     ⊎ (IsNoneWrong text ls × SaysAlone words REPEAT_ABOVE.now)
 
--- the literal with this number is told at its beginning
+-- a literal is told where it stops to be a pattern; for want of memory it is told at its beginning that it is none
+abbrev pub SaysOfLiteral : (text : List ℕ) → Literal → Words → Type 0
+SaysOfLiteral text l words =
+    ((place : ℕ) × StopsAt (written text l) l.start place words.sentence.now × PointAt words text place)
+    ⊎ ((words.sentence.now ≡ PATTERN_OTHER.now) × PointAt words text l.start)
+
+-- so is the literal with this number
 abbrev pub SaysLiteral : (text : List ℕ) → List Literal → (number : ℕ) → Words → Type 0
 SaysLiteral text ls number words =
-    MatchOption (literal_numbered ls number) (SaysAlone words PATTERN_OTHER.now)
-    (λ l. SaysPattern (written text l) words.sentence.now × PointAt words text l.start)
+    MatchOption (literal_numbered ls number) (SaysAlone words PATTERN_OTHER.now) (λ l. SaysOfLiteral text l words)
 
 -- what is said of a fault of a text with these literals
 abbrev pub SaysFault : (text : List ℕ) → List Literal → QueryFault → Words → Type 0

@@ -13,6 +13,7 @@ pub mod PairFaults
 pub mod QueryGuesses
 pub mod QueryLiterals
 pub mod QueryNumbers
+pub mod QueryPatterns
 pub mod QueryPlaces
 pub mod QueryWords
 pub mod RowFaults

@@ -3,7 +3,8 @@
 -- CoNLL-U format page: a file is UTF-8, and a word line has ten fields with one tab between two of them.
 use Rattle.std.specs.Prelude.{◌≡◌, ◌≢◌, ℕ, ◌+◌, ◌-◌, ◌^◌, ◌<◌, ◌⊎◌, List, [], ◌∷◌, ◌++◌, length, Option}
 use Rattle.std.specs.Prelude.{Bool, true, false, ◌&&◌, ◌||◌, not, nat_le, nat_lt, ◌==◌, IfSome, IsSomeAnd, MatchOption, chars}
-use Rattle.std.specs.Prelude.{codes, drop, eqb, if◌then◌else◌, None, position, slice_index, Some, unwrap_or}
+use Rattle.std.specs.Prelude.{codes, drop, eqb, if◌then◌else◌, is_some, None, position, slice_get, slice_index, Some}
+use Rattle.std.specs.Prelude.{unwrap_or}
 use Rattle.std.specs.List.{after_first, before_first, list_all, list_any, position_or_len, starts_with}
 use Rattle.std.specs.Char.{is_not_whitespace, is_whitespace}
 use Rattle.std.specs.Str.{EmptyOrStartsWithPassing, IsUtf8, NoCharPasses, trim, trim_start}
@@ -17,9 +18,9 @@ use Rattle.tb_words.specs.Columns.{value_bytes}
 use Rattle.tb_words.specs.declared.findings.Detail.TheVariants.{Byte, Character, Columns, Control}
 use Rattle.tb_words.specs.declared.findings.Finding.{Finding}
 use Rattle.tb_words.specs.declared.sentences.TheConstants.{BLANK_AFTER_COMMENTS, BLANK_FIRST, BLANK_MISSING, BLANK_TWICE}
-use Rattle.tb_words.specs.declared.sentences.TheConstants.{BYTE_ORDER_MARK, CARRIAGE_RETURN, COMMENTS_AT_END}
-use Rattle.tb_words.specs.declared.sentences.TheConstants.{COMMENT_INDENTED, COMMENT_PLACE, CONTROL, DOUBLE_TAB, EMPTY_FIELD}
-use Rattle.tb_words.specs.declared.sentences.TheConstants.{FEW_FIELDS, HEAD_FORM, ID_FORM, ID_LONG, ID_ZERO, LONE_RETURNS}
+use Rattle.tb_words.specs.declared.sentences.TheConstants.{BYTE_ORDER_MARK, CARRIAGE_RETURN, CARRIAGE_RETURN_WITHIN}
+use Rattle.tb_words.specs.declared.sentences.TheConstants.{COMMENTS_AT_END, COMMENT_INDENTED, COMMENT_PLACE, CONTROL}
+use Rattle.tb_words.specs.declared.sentences.TheConstants.{DOUBLE_TAB, EMPTY_FIELD, FEW_FIELDS, HEAD_FORM, ID_FORM, ID_LONG, ID_ZERO, LONE_RETURNS}
 use Rattle.tb_words.specs.declared.sentences.TheConstants.{MANY_FIELDS, NOT_UTF8, NO_BLANK_AT_END, NO_LINE_FEED}
 use Rattle.tb_words.specs.declared.sentences.TheConstants.{NOT_NFC, NO_TAB, NUL, SPACE, SPACES_FOR_TABS, TAB_AT_END, UTF16}
 use Rattle.tb_words.specs.declared.sentences.TheConstants.{WHITE_LINE}
@@ -61,17 +62,28 @@ SaysForm line found =
 abbrev pub is_control_code : ℕ → Bool
 is_control_code c = nat_lt c 32 && not (c == 9)
 
+-- nothing follows a place of a text
+abbrev pub is_last : List ℕ → ℕ → Bool
+is_last cs at = not (is_some (slice_get cs (at + 1)))
+
+-- a CR: the last of its line, before a line feed, or at this place within the line
+abbrev pub SaysReturn : (place : ℕ) → (at_end : Bool) → Finding → Type 0
+SaysReturn place at_end found =
+    ((found.sentence.now ≡ CARRIAGE_RETURN.now) × (at_end ≡ true))
+    ⊎ ((found.sentence.now ≡ CARRIAGE_RETURN_WITHIN.now) × (at_end ≡ false) × (found.detail ≡ Character place))
+
 -- what this character at this place of a line is called
-abbrev pub SaysControlAt : ℕ → ℕ → Finding → Type 0
-SaysControlAt at c found =
-    ((found.sentence.now ≡ CARRIAGE_RETURN.now) × (c ≡ 13))
+abbrev pub SaysControlAt : (at c : ℕ) → (at_end : Bool) → Finding → Type 0
+SaysControlAt at c at_end found =
+    (SaysReturn (at + 1) at_end found × (c ≡ 13))
     ⊎ ((found.sentence.now ≡ NUL.now) × (c ≡ 0) × (found.detail ≡ Character (at + 1)))
     ⊎ ((found.sentence.now ≡ CONTROL.now) × (c ≢ 13) × (c ≢ 0) × (found.detail ≡ Control (at + 1) c))
 
 -- the first control character of the line, by its number in the line
 abbrev pub SaysControl : List ℕ → Finding → Type 0
 SaysControl line found =
-    IfSome (position is_control_code (chars line)) (λ at. SaysControlAt at (slice_index (chars line) at) found)
+    IfSome (position is_control_code (chars line)) (λ at. SaysControlAt at (slice_index (chars line) at)
+    (is_last (chars line) at) found)
 
 -- ---- code 4
 

@@ -1,6 +1,6 @@
 -- Between crates: no contract of a front door cites a definition of this module.
 -- The characters of a query's text with their places, and its literals (QUERIES, literals and patterns).
-use Rattle.std.specs.Prelude.{◌≡◌, ◌⊎◌, ◌+◌, ◌-◌, ◌++◌, ◌∷◌, ◌==◌, ◌&&◌, ℕ, List, [], Bool, true, false, Option, Some, None}
+use Rattle.std.specs.Prelude.{◌≡◌, ◌⊎◌, ◌+◌, ◌-◌, ◌++◌, ◌∷◌, ◌==◌, ◌≤◌, ◌&&◌, ℕ, List, [], Bool, true, false, Option, Some, None}
 use Rattle.std.specs.Prelude.{chars, drop, encode_utf8, encode_utf8_all, if◌then◌else◌, length, nat_eq, nat_le, nat_lt}
 use Rattle.std.specs.Prelude.{slice_get, take}
 use Rattle.std.specs.List.{list_any}
@@ -55,6 +55,10 @@ is_in ls at = list_any (λ l. nat_le l.start at && nat_lt at l.end) ls
 -- the literal with this number, counted from 1
 abbrev pub literal_numbered : List Literal → (number : ℕ) → Option Literal
 literal_numbered ls number = if number == 0 then None else slice_get ls (number - 1)
+
+-- a text may be cut at both ends of a literal
+abbrev pub IsCut : (text : List ℕ) → Literal → Type 0
+IsCut text l = IsCharBoundary text l.start × IsCharBoundary text l.end × (l.start ≤ l.end)
 
 -- a literal as it is written, with its quotes
 abbrev pub written : (text : List ℕ) → Literal → List ℕ

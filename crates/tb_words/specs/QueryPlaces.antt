@@ -12,7 +12,6 @@ use Rattle.tb_words.specs.QueryNumbers.{SaysBounds}
 use Rattle.tb_words.specs.Shown.{visible}
 use Rattle.tb_words.specs.Spelled.{IsAfterLast}
 use Rattle.tb_words.specs.declared.literals.Literal.{Literal}
-use Rattle.tb_words.specs.declared.sentences.TheConstants.{PATTERN_BACK, PATTERN_LOOKING, PATTERN_OTHER}
 
 -- ---- brackets
 
@@ -80,35 +79,6 @@ IsFirstWrong text ls at said = IsAfterRight text ls at × SaysBraces text at (So
 abbrev pub IsNoneWrong : (text : List ℕ) → List Literal → Type 0
 IsNoneWrong text ls =
     AreRight text (braces text ls) ⊎ ((at : ℕ) × IsAfterRight text ls at × (IsClosed text at → ⊥))
-
--- ---- patterns
-
--- a pattern looks ahead or behind
-abbrev pub LooksRound : (pattern : List ℕ) → Type 0
-LooksRound pattern =
-    (HasSubslice pattern (codes "(?=") ⊎ HasSubslice pattern (codes "(?!"))
-    ⊎ (HasSubslice pattern (codes "(?<=") ⊎ HasSubslice pattern (codes "(?<!"))
-
-abbrev pub is_backslash : ℕ → Bool
-is_backslash b = b == 92
-
--- a digit, without 0
-abbrev pub is_first_digit : ℕ → Bool
-is_first_digit b = nat_le 49 b && nat_le b 57
-
--- a text begins with one
-abbrev pub begins_digit : List ℕ → Bool
-begins_digit text = is_first_digit (unwrap_or (slice_get text 0) 0)
-
--- a pattern refers to an earlier match: such a digit follows a backslash
-abbrev pub looks_back : (pattern : List ℕ) → Bool
-looks_back pattern = list_any begins_digit (drop 1 (slice_split is_backslash pattern))
-
--- what is said of a literal that is no pattern
-abbrev pub SaysPattern : (pattern : List ℕ) → (said : List ℕ) → Type 0
-SaysPattern pattern said =
-    (LooksRound pattern → said ≡ PATTERN_LOOKING.now)
-    × ((LooksRound pattern → ⊥) → said ≡ (if looks_back pattern then PATTERN_BACK.now else PATTERN_OTHER.now))
 
 -- ---- pictures
 

@@ -10,10 +10,10 @@ ghost use Rattle.tb_conllu.specs.Lines.{field as field_at, fields};
 ghost use Rattle.tb_words.specs.LineFaults.{AreWords, begins_sentence, BeginsAsRow, begins_utf16, begins_with_mark};
 ghost use Rattle.tb_words.specs.LineFaults.{blank_sentence, comment_text, ending_sentence};
 ghost use Rattle.tb_words.specs.LineFaults.{has_last_tab, holds_wrong_space, id_parts, id_sentence, IsFirst};
-ghost use Rattle.tb_words.specs.LineFaults.{is_control_code, IsFirstEmpty, IsFirstUncomposed, number_sentence};
+ghost use Rattle.tb_words.specs.LineFaults.{is_control_code, is_last, IsFirstEmpty, IsFirstUncomposed, number_sentence};
 ghost use Rattle.tb_words.specs.LineFaults.{SaysBeginning, SaysColumns, SaysControl, SaysControlAt, SaysCount};
-ghost use Rattle.tb_words.specs.LineFaults.{SaysComment, SaysEncoding, SaysForm, SaysMore, SaysSpace, SaysTabless};
-ghost use Rattle.tb_words.specs.LineFaults.{ShowsColumn};
+ghost use Rattle.tb_words.specs.LineFaults.{SaysComment, SaysEncoding, SaysForm, SaysMore, SaysReturn, SaysSpace};
+ghost use Rattle.tb_words.specs.LineFaults.{SaysTabless, ShowsColumn};
 ghost use Rattle.tb_words.specs.declared.sentences.TheConstants.{HEAD_FORM};
 
 use crate::columns::{FORM, HEAD, ID, LEMMA, MISC, field};
@@ -121,14 +121,32 @@ fn character_at(line: &str, at: usize) -> Option<char>
     line.chars().nth(at)
 }
 
-/// What is wrong with a control character that so many characters precede.
-fn control_at<'a>(number: usize, before: usize, c: char) -> Finding<'a>
+/// Whether no character follows the one that so many characters precede.
+fn is_last(line: &str, before: usize) -> bool
+    ensures { before + 1 < 2 ^ 64 → result ≡ is_last (chars line.now) before }
+{
+    character_at(line, before.saturating_add(1)).is_none()
+}
+
+/// What is wrong with a CR, which is the last character of its line or not.
+fn carriage_return<'a>(number: usize, place: usize, at_end: bool) -> Finding<'a>
     ensures line { result.line ≡ number }
-    ensures said { before + 1 < 2 ^ 64 → SaysControlAt before c result }
+    ensures said { SaysReturn place at_end result }
+{
+    if at_end {
+        return Finding::on(number, reported::CARRIAGE_RETURN);
+    }
+    Finding::on(number, reported::CARRIAGE_RETURN_WITHIN).and(Detail::Character(place))
+}
+
+/// What is wrong with a control character that so many characters precede.
+fn control_at<'a>(number: usize, before: usize, c: char, at_end: bool) -> Finding<'a>
+    ensures line { result.line ≡ number }
+    ensures said { before + 1 < 2 ^ 64 → SaysControlAt before c at_end result }
 {
     let place = before.saturating_add(1);
     match c {
-        '\r' => Finding::on(number, reported::CARRIAGE_RETURN),
+        '\r' => carriage_return(number, place, at_end),
         '\0' => Finding::on(number, reported::NUL).and(Detail::Character(place)),
         _ => Finding::on(number, reported::CONTROL).and(Detail::Control(place, c as u32)),
     }
@@ -140,7 +158,7 @@ fn control<'a>(number: usize, line: &str) -> Finding<'a>
 {
     let before = stray_at(line).unwrap_or(0);
     let c = character_at(line, before).unwrap_or('\0');
-    control_at(number, before, c)
+    control_at(number, before, c, is_last(line, before))
 }
 
 fn count_fields(line: &str) -> usize

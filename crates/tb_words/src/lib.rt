@@ -13,6 +13,7 @@ mod features;
 mod findings;
 mod literals;
 mod pairs;
+mod patterns;
 mod pictures;
 mod places;
 mod queries;

@@ -1,21 +1,19 @@
 //! What is wrong with a query, or what it most likely means where it finds nothing.
 
 ghost use Rattle.std.specs.List.{before_first};
-ghost use Rattle.std.specs.Prelude.{◌≡◌, ◌+◌, ◌||◌, Decides, drop, false, IfSome, MatchOption, None, Some, option_map};
-ghost use Rattle.std.specs.Prelude.{if◌then◌else◌, true};
+ghost use Rattle.std.specs.Prelude.{◌≡◌, ◌+◌, drop, false, IfSome, MatchOption, None, Some, option_map, true};
 ghost use Rattle.std.specs.Str.{IsCharBoundary};
-ghost use Rattle.std.specs.Str.Iter.{HasSubslice};
 ghost use Rattle.std.specs.String.{string_bytes};
 ghost use Rattle.tb_words.specs.declared.sentences.TheConstants.{LITERALLY, NOTHING_RELEASED, ON_A_RANGE};
-ghost use Rattle.tb_words.specs.declared.sentences.TheConstants.{PATTERN_BACK, PATTERN_LOOKING, PATTERN_OTHER};
 ghost use Rattle.tb_words.specs.QueryNumbers.{IsNumber, SaysBounds, bound_texts, bounds_sentence};
-ghost use Rattle.tb_words.specs.Explained.{BeginWith, IsGuess, Say, SaysFault, SaysLiteral, SaysOfQuery, SaysRepetition};
-ghost use Rattle.tb_words.specs.Explained.{PointAt, form_place, hits_place, query_place};
-ghost use Rattle.tb_words.specs.QueryLiterals.{HasChar, KnowsLiterals};
-ghost use Rattle.tb_words.specs.QueryPlaces.{IsClosed, IsFirstWrong, IsNoneWrong, IsPicture, LooksRound, SaysBraces};
-ghost use Rattle.tb_words.specs.QueryPlaces.{SaysPattern, begins_digit, is_brace, is_closing, is_first_digit, looks_back};
+ghost use Rattle.tb_words.specs.Explained.{BeginWith, IsGuess, Say, SaysFault, SaysLiteral, SaysOfLiteral, SaysOfQuery};
+ghost use Rattle.tb_words.specs.Explained.{PointAt, SaysRepetition, form_place, hits_place, query_place};
+ghost use Rattle.tb_words.specs.QueryLiterals.{HasChar, IsCut, KnowsLiterals};
+ghost use Rattle.tb_words.specs.QueryPlaces.{IsClosed, IsFirstWrong, IsNoneWrong, IsPicture, SaysBraces};
+ghost use Rattle.tb_words.specs.QueryPlaces.{is_brace, is_closing};
 
 use crate::literals::{Literal, holds, literals, numbered, written};
+use crate::patterns::first_stop;
 use crate::pictures::{character, picture};
 use crate::sentences as reported;
 use crate::syntax::Wrong;
@@ -168,71 +166,15 @@ fn repeated(alloc: Global, text: &str, literals: &[Literal]) -> Words
     }
 }
 
-/// Whether a text has this part.
-fn has(text: &str, part: &str) -> bool
-    ensures { Decides result (HasSubslice text.now part.now) }
+/// What is wrong with a literal that is no pattern, where it stops to be one; without memory, at its beginning.
+fn literal_fault(alloc: Global, text: &str, literal: Literal) -> Words
+    ensures { IsCut text.now literal → SaysOfLiteral text.now literal result }
 {
-    text.contains(part)
-}
-
-/// Whether one of four things is so.
-fn is_any(first: bool, second: bool, third: bool, fourth: bool) -> bool
-    ensures { result ≡ ((first || second) || (third || fourth)) }
-{
-    (first || second) || (third || fourth)
-}
-
-/// Whether a pattern looks ahead or behind.
-fn looks_round(pattern: &str) -> bool
-    ensures { Decides result (LooksRound pattern.now) }
-{
-    is_any(
-        has(pattern, "(?="),
-        has(pattern, "(?!"),
-        has(pattern, "(?<="),
-        has(pattern, "(?<!"),
-    )
-}
-
-/// Whether a byte is a digit, without 0.
-fn is_first_digit(byte: u8) -> bool
-    ensures { result ≡ is_first_digit byte }
-{
-    matches!(byte, b'1'..=b'9')
-}
-
-/// Whether a text begins with a digit, without 0.
-fn begins_digit(text: &str) -> bool
-    ensures { result ≡ begins_digit text.now }
-{
-    is_first_digit(text.as_bytes().first().copied().unwrap_or(0))
-}
-
-/// Whether a pattern refers to an earlier match, as `\1` does.
-fn looks_back(pattern: &str) -> bool
-    ensures { result ≡ looks_back pattern.now }
-{
-    pattern.split('\\').skip(1).any(|piece| begins_digit(piece))
-}
-
-fn looking_fault(is_round: bool, is_back: bool) -> &'static str
-    ensures { result.now
-        ≡ (if is_round then PATTERN_LOOKING.now else if is_back then PATTERN_BACK.now else PATTERN_OTHER.now) }
-{
-    if is_round {
-        reported::PATTERN_LOOKING
-    } else if is_back {
-        reported::PATTERN_BACK
-    } else {
-        reported::PATTERN_OTHER
+    let said = written(text, literal);
+    match first_stop(alloc, text, literal.start, said) {
+        Some((place, sentence)) => at_byte(alloc, text, place, sentence),
+        None => at_byte(alloc, text, literal.start, reported::PATTERN_OTHER),
     }
-}
-
-/// What is wrong with a literal that is no pattern.
-fn pattern_fault(pattern: &str) -> &'static str
-    ensures { SaysPattern pattern.now result.now }
-{
-    looking_fault(looks_round(pattern), looks_back(pattern))
 }
 
 /// What is wrong with the literal that has this number, counted from 1, and is no pattern.
@@ -240,14 +182,7 @@ fn pattern(alloc: Global, text: &str, literals: &[Literal], number: u64) -> Word
     ensures { KnowsLiterals text.now literals.now → SaysLiteral text.now literals.now number result }
 {
     match numbered(literals, number) {
-        Some(literal) => {
-            at_byte(
-                alloc,
-                text,
-                literal.start,
-                pattern_fault(written(text, literal)),
-            )
-        }
+        Some(literal) => literal_fault(alloc, text, literal),
         None => Words::alone(reported::PATTERN_OTHER),
     }
 }

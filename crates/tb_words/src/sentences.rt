@@ -15,6 +15,9 @@ pub(crate) const NOT_NFC: &str =
 pub(crate) const CARRIAGE_RETURN: &str =
     "the line ends with CR and LF; `tr -d '\\r'` takes the CR away";
 
+pub(crate) const CARRIAGE_RETURN_WITHIN: &str =
+    "a CR is within the line; take it away, or where CR alone ends lines, `tr '\\r' '\\n'` makes line feeds of them";
+
 pub(crate) const NUL: &str =
     "the character U+0000 is here; the file is damaged, or in UTF-16 without a mark";
 
@@ -212,8 +215,26 @@ pub(crate) const PATTERN_LOOKING: &str =
 pub(crate) const PATTERN_BACK: &str =
     "patterns have no `\\1`, which stands for what was found before";
 
+pub(crate) const PATTERN_OPEN: &str =
+    "no ) closes this ( of the pattern; write `\\(` for the sign itself, or %l after the literal";
+
+pub(crate) const PATTERN_CLOSED: &str =
+    "this ) of the pattern closes no (; write `\\)` for the sign itself, or %l after the literal";
+
+pub(crate) const PATTERN_SET: &str =
+    "no ] closes this [ of the pattern; write `\\[` for the sign itself, or %l after the literal";
+
+pub(crate) const PATTERN_BRACE: &str =
+    "this { of the pattern begins no repetition, as {2}, {2,} or {2,3} after a sign; write `\\{` for the sign itself, or %l after the literal";
+
+pub(crate) const PATTERN_REPEATS: &str =
+    "nothing that this sign of the pattern can repeat is before it; write a backslash before it for the sign itself, or %l after the literal";
+
+pub(crate) const PATTERN_BACKSLASH: &str =
+    "this backslash has no meaning in a pattern with what follows it; write `\\\\` for the sign itself, or %l after the literal";
+
 pub(crate) const PATTERN_OTHER: &str =
-    "this literal is no pattern; a backslash takes the meaning from ( ) [ ] { } . * + ? and %l after the literal from all";
+    "a literal is a regular expression, and this is none; a backslash takes the meaning from ( ) [ ] { } . * + ? and %l after the literal from all";
 
 pub(crate) const PATTERN_LARGE: &str =
     "a pattern of the query is too large, or there is not enough memory; repeat less in it";
@@ -245,6 +266,26 @@ pub(crate) const WITHIN: &str =
 
 pub(crate) const ARROW: &str = "-> is not in this subset of CQP; write ! and |";
 
+pub(crate) const AND_TWICE: &str = "and is written with one &, or with one |";
+
+pub(crate) const AND_OUTSIDE: &str =
+    "& joins tests within brackets; words that follow one another stand side by side";
+
+pub(crate) const CONNECTIVE: &str =
+    "or is written |, words that follow one another stand side by side, and not is in brackets, as [word!=\"dogs\"]; a word to find is in quotes";
+
+pub(crate) const END_PLACE: &str =
+    "`within s` and ; are at the end of a query, after what is searched and outside parentheses";
+
+pub(crate) const AFTER_WITHIN: &str =
+    "only ; may follow `within s`; write before it all that is searched";
+
+pub(crate) const AFTER_SEMICOLON: &str =
+    "nothing follows ; since it ends the query; `within s` is before it";
+
+pub(crate) const REPETITION_FORM: &str =
+    "a repetition is {n}, {n,} or {n,m}: one number or two, with a comma between them";
+
 pub(crate) const NO_LOWER: &str = "a repetition has a lower number; write {0,m}";
 
 pub(crate) const NUMBER_ZERO: &str = "a number has no leading zero";
@@ -263,6 +304,9 @@ pub(crate) const NO_PARENTHESIS: &str = "no parenthesis is open here, or nothing
 
 pub(crate) const VALUE_WANTED: &str =
     "a value between quotes has to be here, as in [upos=\"NOUN\"]";
+
+pub(crate) const FEATURE_WANTED: &str =
+    "a feature between quotes has to follow contains, as in [feats contains \"Number=Plur\"]";
 
 pub(crate) const VALUE_UNQUOTED: &str = "put quotes round the value, as in [upos=\"NOUN\"]";
 
@@ -306,6 +350,9 @@ pub(crate) const PARENTHESIS_OPEN: &str = "the query ends within parentheses; cl
 pub(crate) const BRACE_OPEN: &str = "the query ends within a repetition; close it by }";
 
 pub(crate) const ENDS_EARLY: &str = "the query ends where a token or a literal has to follow";
+
+pub(crate) const TEST_MISSING: &str =
+    "the query ends where a test has to follow, as in [upos=\"NOUN\"]";
 
 pub(crate) const SYNTAX: &str = "no query has this here";
 

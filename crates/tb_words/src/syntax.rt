@@ -3,10 +3,13 @@
 ghost use Rattle.std.specs.List.{ends_with, slice_get, starts_with};
 ghost use Rattle.std.specs.Prelude.{◌≡◌, chars, drop, eqb, if◌then◌else◌, length, position, take};
 ghost use Rattle.std.specs.Str.{IsCharBoundary, trim_end, trim_start};
-ghost use Rattle.tb_words.specs.QueryGuesses.{begins_test, bracket_sentence, character_sentence, end_sentence, follows_column};
-ghost use Rattle.tb_words.specs.QueryGuesses.{follows_flag, follows_repetition, guess, inside_sentence, is_curly};
+ghost use Rattle.tb_words.specs.QueryGuesses.{after_end_sentence, and_sentence, begins_test, braces_sentence};
+ghost use Rattle.tb_words.specs.QueryGuesses.{bracket_sentence, character_sentence, end_inside_sentence, end_sentence};
+ghost use Rattle.tb_words.specs.QueryGuesses.{follows_backslash, follows_column, follows_end, follows_flag};
+ghost use Rattle.tb_words.specs.QueryGuesses.{follows_repetition, guess, inside_sentence, is_curly, other_sentence};
 ghost use Rattle.tb_words.specs.QueryGuesses.{outside_sentence, quote_sentence, repetition_sentence, said_if};
-ghost use Rattle.tb_words.specs.QueryGuesses.{sign_sentence, wants_number, wants_value, word_sentence};
+ghost use Rattle.tb_words.specs.QueryGuesses.{sign_sentence, value_sentence, wants_number, wants_part, wants_value};
+ghost use Rattle.tb_words.specs.QueryGuesses.{word_sentence};
 ghost use Rattle.tb_words.specs.QueryPlaces.{is_before, open_after, open_at};
 ghost use Rattle.tb_words.specs.QueryWords.{column_sentence, first_word, is_closed_column, is_column};
 ghost use Rattle.tb_words.specs.QueryWords.{is_column_in_capitals, is_connective, is_of_features, is_of_forms};
@@ -22,9 +25,10 @@ pub(crate) struct Wrong<'a> {
     before: &'a str,
     /// The text from the place on.
     rest: &'a str,
-    /// How many brackets and round parentheses are open at the place.
+    /// How many brackets, round parentheses and braces are open at the place.
     brackets: usize,
     parentheses: usize,
+    braces: usize,
 }
 
 /// Whether a place is before another one, and in no literal.
@@ -78,7 +82,7 @@ fn ends(text: &str, end: &str) -> bool
 }
 
 /// Whether a text begins so.
-fn begins(text: &str, front: &str) -> bool
+pub(crate) fn begins(text: &str, front: &str) -> bool
     ensures { result ≡ starts_with eqb text.now front.now }
 {
     text.starts_with(front)
@@ -188,6 +192,21 @@ fn is_connective(word: &str) -> bool
     matches!(word, "and" | "or" | "not" | "AND" | "OR" | "NOT")
 }
 
+/// What is wrong with a word outside brackets that this follows, and that is none of the query's own.
+fn other_word(word: &str, after: &str) -> &'static str
+    ensures { result.now ≡ other_sentence word.now after.now }
+{
+    if begins(after, ":") {
+        reported::LABEL
+    } else if word == "MU" || word == "TAB" {
+        reported::MU
+    } else if is_column(word) || begins(after.trim_start(), "=") {
+        reported::BRACKETS
+    } else {
+        reported::WORD_UNQUOTED
+    }
+}
+
 /// Whether a character is a quote that a query does not use.
 fn is_curly(c: char) -> bool
     ensures { result ≡ is_curly c }
@@ -218,12 +237,14 @@ impl<'a> Wrong<'a> {
         ensures rest { IsCharBoundary text.now at → result.rest.now ≡ drop at text.now }
         ensures brackets { result.brackets ≡ open_at text.now literals.now at 91 93 }
         ensures parentheses { result.parentheses ≡ open_at text.now literals.now at 40 41 }
+        ensures braces { result.braces ≡ open_at text.now literals.now at 123 125 }
     {
         Wrong {
             before: text.get(..at).unwrap_or(text).trim_end(),
             rest: text.get(at..).unwrap_or(""),
             brackets: open_at(text, literals, at, '[', ']'),
             parentheses: open_at(text, literals, at, '(', ')'),
+            braces: open_at(text, literals, at, '{', '}'),
         }
     }
 
@@ -279,6 +300,54 @@ impl<'a> Wrong<'a> {
         ends(self.before, "{") || ends(self.before, ",")
     }
 
+    /// Whether a choice or a parenthesis precedes the place, whose next part has to be here.
+    fn wants_part(&self) -> bool
+        ensures { result ≡ wants_part self.now }
+    {
+        ends(self.before, "|") || ends(self.before, "(")
+    }
+
+    /// Whether the end of the query precedes the place. No other word outside brackets ends with `s`.
+    fn follows_end(&self) -> bool
+        ensures { result ≡ follows_end self.now }
+    {
+        self.brackets == 0
+            && (ends(self.before, "within") || ends(self.before, "s") || ends(self.before, ";"))
+    }
+
+    /// Whether the place follows a literal that a backslash was to keep open.
+    fn follows_backslash(&self) -> bool
+        ensures { result ≡ follows_backslash self.now }
+    {
+        ends(self.before, "\\\"") || ends(self.before, "\\'")
+    }
+
+    /// Which value has to be here.
+    fn value(&self) -> &'static str
+        ensures { result.now ≡ value_sentence self.now }
+    {
+        if ends(self.before, "contains") {
+            reported::FEATURE_WANTED
+        } else {
+            reported::VALUE_WANTED
+        }
+    }
+
+    /// What is missing where the text ends within brackets.
+    fn end_inside(&self) -> &'static str
+        ensures { result.now ≡ end_inside_sentence self.now }
+    {
+        if self.wants_value() {
+            self.value()
+        } else if self.follows_column() {
+            reported::TEST_WANTED
+        } else if self.begins_test() && !ends(self.before, "[") {
+            reported::TEST_MISSING
+        } else {
+            reported::BRACKET_OPEN
+        }
+    }
+
     /// What is missing where the text ends too early.
     fn end(&self) -> &'static str
         ensures { result.now ≡ end_sentence self.now }
@@ -286,15 +355,43 @@ impl<'a> Wrong<'a> {
         if self.before.is_empty() {
             reported::EMPTY_QUERY
         } else if self.brackets > 0 {
-            reported::BRACKET_OPEN
+            self.end_inside()
+        } else if ends(self.before, "{") {
+            reported::REPETITION_FORM
+        } else if self.braces > 0 {
+            reported::BRACE_OPEN
+        } else if self.wants_part() {
+            reported::ENDS_EARLY
         } else if self.parentheses > 0 {
             reported::PARENTHESIS_OPEN
-        } else if ends(self.before, "within") {
-            reported::WITHIN
-        } else if ends(self.before, "|") {
-            reported::ENDS_EARLY
         } else {
-            reported::BRACE_OPEN
+            reported::WITHIN
+        }
+    }
+
+    /// What is wrong after the end of a query, or within it.
+    fn after_end(&self) -> &'static str
+        ensures { result.now ≡ after_end_sentence self.now }
+    {
+        if ends(self.before, "within") {
+            reported::WITHIN
+        } else if ends(self.before, ";") {
+            reported::AFTER_SEMICOLON
+        } else {
+            reported::AFTER_WITHIN
+        }
+    }
+
+    /// What is wrong within the braces of a repetition.
+    fn in_braces(&self) -> &'static str
+        ensures { result.now ≡ braces_sentence self.now }
+    {
+        if ends(self.before, "{") && begins(self.rest, ",") {
+            reported::NO_LOWER
+        } else if self.wants_number() && begins(self.rest, "0") {
+            reported::NUMBER_ZERO
+        } else {
+            reported::REPETITION_FORM
         }
     }
 
@@ -323,22 +420,16 @@ impl<'a> Wrong<'a> {
     fn word_before(&self, word: &str, after: &str) -> &'static str
         ensures { result.now ≡ outside_sentence self.now word.now after.now }
     {
-        if self.follows_flag() {
-            reported::FLAG
-        } else if ends(self.before, "within") {
-            reported::WITHIN
-        } else if ends(self.before, "\\\"") || ends(self.before, "\\'") {
+        if self.follows_backslash() {
             reported::BACKSLASH_QUOTE
-        } else if begins(after, ":") {
-            reported::LABEL
-        } else if word == "MU" || word == "TAB" {
-            reported::MU
-        } else if is_column(word) || begins(after.trim_start(), "=") {
-            reported::BRACKETS
-        } else if self.wants_number() {
-            reported::NUMBER_ZERO
+        } else if word == "within" {
+            reported::END_PLACE
+        } else if is_connective(word) {
+            reported::CONNECTIVE
+        } else if self.follows_flag() {
+            reported::FLAG
         } else {
-            reported::WORD_UNQUOTED
+            other_word(word, after)
         }
     }
 
@@ -369,7 +460,7 @@ impl<'a> Wrong<'a> {
         ensures { result.now ≡ bracket_sentence self.now }
     {
         if self.wants_value() {
-            reported::VALUE_WANTED
+            self.value()
         } else if self.follows_column() {
             reported::TEST_WANTED
         } else {
@@ -384,9 +475,20 @@ impl<'a> Wrong<'a> {
         if is_so {
             sentence
         } else if self.wants_value() {
-            reported::VALUE_WANTED
+            self.value()
         } else {
             reported::SYNTAX
+        }
+    }
+
+    /// What is wrong with an `&`: outside brackets it is no sign of a query.
+    fn and(&self) -> &'static str
+        ensures { result.now ≡ and_sentence self.now }
+    {
+        if self.brackets > 0 {
+            self.said_if(ends(self.before, "&"), reported::AND_TWICE)
+        } else {
+            reported::AND_OUTSIDE
         }
     }
 
@@ -403,7 +505,9 @@ impl<'a> Wrong<'a> {
             ']' => self.closing_bracket(),
             '{' | '?' | '*' | '+' => self.repetition(),
             '-' => self.said_if(begins(self.rest, "->"), reported::ARROW),
-            ',' => self.said_if(ends(self.before, "{"), reported::NO_LOWER),
+            '&' => self.and(),
+            '|' => self.said_if(ends(self.before, "|"), reported::AND_TWICE),
+            ';' => self.said_if(self.brackets == 0, reported::END_PLACE),
             '=' => self.said_if(ends(self.before, "="), reported::EQUALS_TWICE),
             '!' => self.said_if(self.follows_column(), reported::NOT_SPACED),
             _ => self.said_if(false, reported::SYNTAX),
@@ -426,7 +530,11 @@ impl<'a> Wrong<'a> {
     fn character(&self, c: char, is_closed: bool) -> &'static str
         ensures { result.now ≡ character_sentence self.now is_closed c }
     {
-        if is_curly(c) {
+        if self.follows_end() {
+            self.after_end()
+        } else if self.braces > 0 {
+            self.in_braces()
+        } else if is_curly(c) {
             reported::CURLY_QUOTE
         } else if c == '"' || c == '\'' {
             self.quote(is_closed)

@@ -1,5 +1,0 @@
-use Rattle.std.proofs.lemmas.Str.Pattern.{contains_text}
-use Rattle.tb_words.proofs.queries.has.Goals as goal
-
-pub returns : goal.returns
-returns c = contains_text c.contains.result c.args.part.now c.args.text.now c.contains.ensures.cases
