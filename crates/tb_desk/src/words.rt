@@ -23,12 +23,13 @@ use tb_host::{Cause, Diagnostic, FileCause, Outcome, wrong_word};
 /// The name of the program.
 pub const TREEDESK: &str = "treedesk";
 
-/// The file, and the row of it that is wrong first, if that is known. `None` for want of memory.
+/// The file, and the row of it that is wrong first, if that is known. `None` for an empty name, or want of memory.
 fn place_of(rt: &HostRuntime, path: &str, cause: FileCause) -> Option<String>
     ensures { misfit_of cause ≡ None → IfSome result (λ place. string_bytes place ≡ path.now) }
 {
     match cause.misfit() {
         Some(misfit) => format!(in rt.alloc(); "{path}, {misfit}").ok(),
+        None if path.is_empty() => None,
         None => String::from_str(rt.alloc(), path).ok(),
     }
 }

@@ -4,6 +4,7 @@ mod Handed
 mod Led
 mod Listed
 mod Numbered
+mod OwnLog
 mod Shown
 mod Unlisted
 mod Valued

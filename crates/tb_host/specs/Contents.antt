@@ -2,8 +2,8 @@
 -- What the bytes of a file and of its log show of its tables (the file format of SQLite, sections 1.3, 1.6 and 4.1).
 use Rattle.std.specs.Prelude.{◌≡◌, ◌≢◌, ◌++◌, ◌+◌, ◌*◌, ◌⊎◌, ◌↔◌, ◌≤◌, ◌<◌, ℕ, List, [], ◌∷◌, All, codes, length, take, drop, slice_get, Option, None, Some}
 use Rattle.std.specs.Prelude.{Bool, true, false, min, nat_eq, not, Result, Ok, Err, MatchResult}
-use Rattle.std.specs.Prelude.{IsTrue}
-use Rattle.std.specs.Fs.{IsDir, IsFile, file_type, metadata_len}
+use Rattle.std.specs.Prelude.{IsSomeAnd, IsTrue}
+use Rattle.std.specs.Fs.{IsDir, IsFile, IsSymlink, file_type, metadata_len}
 use Rattle.std.specs.IoError.{error_kind}
 use Rattle.std.specs.Path.{path_buf_bytes}
 use Rattle.std.specs.Global.{Global}
@@ -14,9 +14,8 @@ use Rattle.std.specs.declared.io.ErrorKind.{ErrorKind}
 use Rattle.std.specs.declared.io.ErrorKind.TheVariants.{NotFound, NotADirectory}
 use Rattle.memchr.specs.Find.{OccursAt}
 use Rattle.sqlite_wal.specs.Format.{be32}
-use Rattle.sqlite_wal.specs.PageSize.{Names}
+use Rattle.sqlite_wal.specs.PageSize.{IsPageSize}
 use Rattle.sqlite_wal.specs.Recovery.{AreFramesOf, IsIgnored}
-use Rattle.tb_host.specs.Causes.{IsSystemCause}
 use Rattle.tb_host.specs.declared.contents.Version.{Version}
 use Rattle.tb_host.specs.declared.contents.Version.TheVariants.{One, Two}
 use Rattle.tb_host.specs.declared.causes.FileCause.{FileCause}
@@ -39,6 +38,10 @@ pub record BeginsWith (bytes text : List ℕ) : Type 0 where
 -- SQLite gives the name a meaning of its own.
 abbrev pub IsReserved : (path : List ℕ) → Type 0
 IsReserved path = (path ≡ codes ":memory:") ⊎ BeginsWith path (codes "file:")
+
+-- why a name is that of no file: it is empty, or SQLite gives it a meaning of its own
+abbrev pub IsNameCause : (path : List ℕ) → FileCause → Type 0
+IsNameCause path cause = ((cause ≡ file.NoName) × (path ≡ [])) ⊎ ((cause ≡ file.ReservedName) × IsReserved path)
 
 -- The name of the log of some file.
 pub record IsLogName (name : List ℕ) : Type 0 where
@@ -94,19 +97,31 @@ odd_cause false = file.NotPlain
 abbrev pub Path : Type 0
 Path = PathBuf Global
 
--- Where a path leads, by what the system says of it: to nothing, or to a plain file with this path.
+-- What is at a path itself is no link, or nothing is there.
+abbrev pub HasNoLink : (IsHere : Option Metadata → Type 0) → Type 0
+HasNoLink IsHere = (found : Option Metadata) × IsHere found × ¬ IsSomeAnd found (λ m. IsSymlink (file_type m))
+
+-- At a path that leads to nothing there is a link, or the system does not say what is there.
+abbrev pub IsDead : (Fails : FileCause → Type 0) → (IsHere : Option Metadata → Type 0) → FileCause → Type 0
+IsDead Fails IsHere cause = Fails cause
+    ⊎ ((cause ≡ file.DeadLink) × ((found : Metadata) × IsHere (Some found) × IsSymlink (file_type found)))
+
+-- Where a path leads, by what the system says of it: to nothing, and no link is there, or to a plain file with this path.
 abbrev pub LeadsTo : (IsTarget : Result (Option Metadata) FileCause → Type 0)
-    → (IsReal : Result Path FileCause → Type 0) → Option Path → Type 0
-LeadsTo IsTarget IsReal None = IsTarget (Ok None)
-LeadsTo IsTarget IsReal (Some real) = (found : Metadata) × IsTarget (Ok (Some found)) × IsFile (file_type found)
+    → (IsReal : Result Path FileCause → Type 0) → (IsHere : Option Metadata → Type 0) → Option Path → Type 0
+LeadsTo IsTarget IsReal IsHere None = IsTarget (Ok None) × HasNoLink IsHere
+LeadsTo IsTarget IsReal IsHere (Some real) = (found : Metadata) × IsTarget (Ok (Some found)) × IsFile (file_type found)
     × IsReal (Ok real)
 
--- Why a path does not lead to a plain file: the system refuses it, or something else is there, as a folder.
+-- Why a path does not lead to a plain file: the system refuses it, something else is there, as a folder, or a link that
+-- leads to nothing.
 abbrev pub IsNotPlain : (IsTarget : Result (Option Metadata) FileCause → Type 0)
-    → (IsReal : Result Path FileCause → Type 0) → FileCause → Type 0
-IsNotPlain IsTarget IsReal cause = IsTarget (Err cause) ⊎ IsReal (Err cause)
+    → (IsReal : Result Path FileCause → Type 0) → (Fails : FileCause → Type 0)
+    → (IsHere : Option Metadata → Type 0) → FileCause → Type 0
+IsNotPlain IsTarget IsReal Fails IsHere cause = IsTarget (Err cause) ⊎ IsReal (Err cause)
     ⊎ ((found : Metadata) × IsTarget (Ok (Some found)) × (¬ IsFile (file_type found))
     × ((folder : Bool) × (IsTrue folder ↔ IsDir (file_type found)) × (cause ≡ odd_cause folder)))
+    ⊎ (IsTarget (Ok None) × IsDead Fails IsHere cause)
 
 abbrev pub AreZero : List ℕ → Type 0
 AreZero bytes = All (λ b. b ≡ 0) bytes
@@ -135,14 +150,14 @@ pub record HasBegunAlone (size : ℕ) (log : List ℕ) : Type 0 where
   pub are : AreFramesOf size log pages
   pub begun : (pages ≡ []) ⊎ AreBegun log pages
 
--- The database reads no header of a log in the bytes, or one that names no size that a page has. So it reads no commit.
-abbrev pub HasNoHeader : List ℕ → Type 0
-HasNoHeader log = (¬ IsIgnored log) → Names None (be32 log 8)
+-- The database reads a header of a log in the bytes, and it names a size that a page has. Else it reads no commit.
+abbrev pub NamesPageSize : List ℕ → Type 0
+NamesPageSize log = (¬ IsIgnored log) × IsPageSize (be32 log 8)
 
 -- A log that `new` may have left, and may write over: its header is not written, and the database reads none. Or by the
 -- page size in its header it has begun alone.
 abbrev pub MayBeOwnLog : List ℕ → Type 0
-MayBeOwnLog log = (IsUnwritten log × HasNoHeader log) ⊎ ((¬ IsIgnored log) × HasBegunAlone (be32 log 8) log)
+MayBeOwnLog log = (IsUnwritten log × ¬ NamesPageSize log) ⊎ (NamesPageSize log × HasBegunAlone (be32 log 8) log)
 
 -- the number that four bytes are, the greatest first (section 1.3)
 abbrev pub number_in : List ℕ → ℕ
@@ -183,13 +198,18 @@ ListsDesk IsBeginning path version =
 
 -- a path leads to a plain file that lists the tables of a desk of this version, and has no journal to be played back
 abbrev pub HasDeskAt : (IsTarget : Result (Option Metadata) FileCause → Type 0)
-    → (IsReal : Result Path FileCause → Type 0) → (IsBeginning : List ℕ → ℕ → List ℕ → Type 0) → Version → Type 0
-HasDeskAt IsTarget IsReal IsBeginning version = (real : Path) × LeadsTo IsTarget IsReal (Some real)
+    → (IsReal : Result Path FileCause → Type 0) → (IsHere : Option Metadata → Type 0)
+    → (IsBeginning : List ℕ → ℕ → List ℕ → Type 0) → Version → Type 0
+HasDeskAt IsTarget IsReal IsHere IsBeginning version = (real : Path) × LeadsTo IsTarget IsReal IsHere (Some real)
     × ListsDesk IsBeginning (path_buf_bytes real) version × HasNoJournal IsBeginning (path_buf_bytes real)
 
--- the cause for a call of the system that failed, or for want of memory
-abbrev pub IsFailedCall : FileCause → Type 0
-IsFailedCall cause = (cause ≡ file.Memory) ⊎ IsSystemCause cause
+-- why a call of the system failed at a path, or want of memory for that path
+abbrev pub IsFailedAt : (IsFailure : List ℕ → FileCause → Type 0) → (path : List ℕ) → FileCause → Type 0
+IsFailedAt IsFailure path cause = (cause ≡ file.Memory) ⊎ IsFailure path cause
+
+-- the same at the path of a file, or at that of its log
+abbrev pub IsFailedCall : (IsFailure : List ℕ → FileCause → Type 0) → (path : List ℕ) → FileCause → Type 0
+IsFailedCall IsFailure path cause = IsFailure path cause ⊎ IsFailedAt IsFailure (path ++ codes "-wal") cause
 
 -- Neither the first bytes of a log nor those of its file list a desk.
 abbrev pub ListsNoDesk : (IsBeginning : List ℕ → ℕ → List ℕ → Type 0) → (path : List ℕ) → Type 0
@@ -198,9 +218,9 @@ ListsNoDesk IsBeginning path = (head : List ℕ) × (log : List ℕ) × IsBeginn
 
 -- Why no desk is listed: the file holds something else than a database, or nothing, its log is no plain file, or neither
 -- of them lists the tables of a desk.
-abbrev pub IsUnlisted : (IsThere : List ℕ → Option Metadata → Type 0)
+abbrev pub IsUnlisted : (IsFailure : List ℕ → FileCause → Type 0) → (IsThere : List ℕ → Option Metadata → Type 0)
     → (IsBeginning : List ℕ → ℕ → List ℕ → Type 0) → (path : List ℕ) → FileCause → Type 0
-IsUnlisted IsThere IsBeginning path cause = IsFailedCall cause
+IsUnlisted IsFailure IsThere IsBeginning path cause = IsFailedCall IsFailure path cause
     ⊎ ((cause ≡ file.NotSqlite) × ((head : List ℕ) × IsBeginning path 65536 head × IsOtherFile head))
     ⊎ ((cause ≡ file.OddLog) × ((found : Metadata) × IsThere (path ++ codes "-wal") (Some found)
     × ¬ IsFile (file_type found)))
@@ -208,21 +228,24 @@ IsUnlisted IsThere IsBeginning path cause = IsFailedCall cause
     ⊎ ((cause ≡ file.OtherDatabase) × ListsNoDesk IsBeginning path)
 
 -- why no desk is listed in a file that may have a journal beside it
-abbrev pub IsUnlistedAlone : (IsThere : List ℕ → Option Metadata → Type 0)
-    → (IsBeginning : List ℕ → ℕ → List ℕ → Type 0) → (path : List ℕ) → FileCause → Type 0
-IsUnlistedAlone IsThere IsBeginning path cause = ((cause ≡ file.Journal) × HasJournal IsThere IsBeginning path)
-    ⊎ IsUnlisted IsThere IsBeginning path cause
+abbrev pub IsUnlistedAlone : (IsFailure : List ℕ → FileCause → Type 0)
+    → (IsThere : List ℕ → Option Metadata → Type 0) → (IsBeginning : List ℕ → ℕ → List ℕ → Type 0)
+    → (path : List ℕ) → FileCause → Type 0
+IsUnlistedAlone IsFailure IsThere IsBeginning path cause =
+    ((cause ≡ file.Journal) × HasJournal IsThere IsBeginning path)
+    ⊎ IsFailedAt IsFailure (path ++ codes "-journal") cause ⊎ IsUnlisted IsFailure IsThere IsBeginning path cause
 
--- Why no desk is listed at a path: SQLite gives it a meaning of its own, nothing is there, it leads to no plain file, or
+-- Why no desk is listed at a path: no file has such a name, nothing is there, it leads to no plain file, or
 -- the file lists none.
 abbrev pub IsUnversioned : (IsTarget : Result (Option Metadata) FileCause → Type 0)
-    → (IsReal : Result Path FileCause → Type 0) → (IsThere : List ℕ → Option Metadata → Type 0)
-    → (IsBeginning : List ℕ → ℕ → List ℕ → Type 0) → (path : List ℕ) → FileCause → Type 0
-IsUnversioned IsTarget IsReal IsThere IsBeginning path cause = ((cause ≡ file.ReservedName) × IsReserved path)
-    ⊎ ((cause ≡ file.Missing) × IsTarget (Ok None))
-    ⊎ IsNotPlain IsTarget IsReal cause
-    ⊎ ((real : Path) × LeadsTo IsTarget IsReal (Some real)
-    × IsUnlistedAlone IsThere IsBeginning (path_buf_bytes real) cause)
+    → (IsReal : Result Path FileCause → Type 0) → (IsFailure : List ℕ → FileCause → Type 0)
+    → (IsThere : List ℕ → Option Metadata → Type 0) → (IsBeginning : List ℕ → ℕ → List ℕ → Type 0)
+    → (path : List ℕ) → FileCause → Type 0
+IsUnversioned IsTarget IsReal IsFailure IsThere IsBeginning path cause = IsNameCause path cause
+    ⊎ ((cause ≡ file.Missing) × LeadsTo IsTarget IsReal (IsThere path) None)
+    ⊎ IsNotPlain IsTarget IsReal (IsFailure path) (IsThere path) cause
+    ⊎ ((real : Path) × LeadsTo IsTarget IsReal (IsThere path) (Some real)
+    × IsUnlistedAlone IsFailure IsThere IsBeginning (path_buf_bytes real) cause)
 
 -- the greatest length of a log that a stopped `new` leaves: one mebibyte
 abbrev pub own_log_limit : ℕ
@@ -235,6 +258,13 @@ HasOwnLog IsThere IsBeginning path = IsThere (path ++ codes "-wal") None
     ⊎ ((found : Metadata) × (bytes : List ℕ) × IsThere (path ++ codes "-wal") (Some found)
     × IsFile (file_type found) × (metadata_len found ≤ own_log_limit)
     × IsBeginning (path ++ codes "-wal") own_log_limit bytes × MayBeOwnLog bytes)
+
+-- The log beside a file is a plain file, and not that of a stopped `new`: it is longer, or its bytes cannot be that.
+abbrev pub HasOtherLog : (IsThere : List ℕ → Option Metadata → Type 0)
+    → (IsBeginning : List ℕ → ℕ → List ℕ → Type 0) → (path : List ℕ) → Type 0
+HasOtherLog IsThere IsBeginning path = (found : Metadata) × IsThere (path ++ codes "-wal") (Some found)
+    × IsFile (file_type found) × ((own_log_limit < metadata_len found)
+    ⊎ ((bytes : List ℕ) × IsBeginning (path ++ codes "-wal") own_log_limit bytes × ¬ MayBeOwnLog bytes))
 
 -- where a new desk's file is: at the path without links, or where nothing is there, at the path as it is given
 abbrev pub place_of : (path : List ℕ) → (real : Option Path) → List ℕ
@@ -257,27 +287,32 @@ IsHeldAs head cause = (¬ IsBlank head) × (ListsTables head → cause ≡ file.
     × ((¬ ListsTables head) → cause ≡ file.NotBlank)
 
 -- The log beside a file is the cause: it is no plain file, or one that may not be written over.
-abbrev pub IsLogCause : (IsThere : List ℕ → Option Metadata → Type 0) → (path : List ℕ) → FileCause → Type 0
-IsLogCause IsThere path cause = (found : Metadata) × IsThere (path ++ codes "-wal") (Some found)
-    × (((cause ≡ file.OddLog) × ¬ IsFile (file_type found)) ⊎ (cause ≡ file.OtherLog))
+abbrev pub IsLogCause : (IsThere : List ℕ → Option Metadata → Type 0)
+    → (IsBeginning : List ℕ → ℕ → List ℕ → Type 0) → (path : List ℕ) → FileCause → Type 0
+IsLogCause IsThere IsBeginning path cause = ((cause ≡ file.OddLog)
+    × ((found : Metadata) × IsThere (path ++ codes "-wal") (Some found) × ¬ IsFile (file_type found)))
+    ⊎ ((cause ≡ file.OtherLog) × HasOtherLog IsThere IsBeginning path)
 
 -- Why no desk may be made in the file at a path: a call of the system failed, the file is not blank, a journal may have to
 -- be played back, or its log is the cause.
-abbrev pub IsNoPlace : (IsThere : List ℕ → Option Metadata → Type 0)
+abbrev pub IsNoPlace : (IsFailure : List ℕ → FileCause → Type 0) → (IsThere : List ℕ → Option Metadata → Type 0)
     → (IsBeginning : List ℕ → ℕ → List ℕ → Type 0) → (path : List ℕ) → FileCause → Type 0
-IsNoPlace IsThere IsBeginning path cause = IsFailedCall cause
+IsNoPlace IsFailure IsThere IsBeginning path cause =
+    IsFailedCall IsFailure path cause ⊎ IsFailedAt IsFailure (path ++ codes "-journal") cause
     ⊎ ((head : List ℕ) × IsBeginning path 65536 head × IsHeldAs head cause)
     ⊎ ((cause ≡ file.Journal) × HasJournal IsThere IsBeginning path)
-    ⊎ IsLogCause IsThere path cause
+    ⊎ IsLogCause IsThere IsBeginning path cause
 
--- Why no desk may be made at a path: SQLite gives it a meaning of its own, it leads to no plain file, or the file is the
+-- Why no desk may be made at a path: no file has such a name, it leads to no plain file, or the file is the
 -- cause.
 abbrev pub IsUnmakeable : (IsTarget : Result (Option Metadata) FileCause → Type 0)
-    → (IsReal : Result Path FileCause → Type 0) → (IsThere : List ℕ → Option Metadata → Type 0)
-    → (IsBeginning : List ℕ → ℕ → List ℕ → Type 0) → (path : List ℕ) → FileCause → Type 0
-IsUnmakeable IsTarget IsReal IsThere IsBeginning path cause = ((cause ≡ file.ReservedName) × IsReserved path)
-    ⊎ IsNotPlain IsTarget IsReal cause
-    ⊎ ((real : Option Path) × LeadsTo IsTarget IsReal real × IsNoPlace IsThere IsBeginning (place_of path real) cause)
+    → (IsReal : Result Path FileCause → Type 0) → (IsFailure : List ℕ → FileCause → Type 0)
+    → (IsThere : List ℕ → Option Metadata → Type 0) → (IsBeginning : List ℕ → ℕ → List ℕ → Type 0)
+    → (path : List ℕ) → FileCause → Type 0
+IsUnmakeable IsTarget IsReal IsFailure IsThere IsBeginning path cause = IsNameCause path cause
+    ⊎ IsNotPlain IsTarget IsReal (IsFailure path) (IsThere path) cause
+    ⊎ ((real : Option Path) × LeadsTo IsTarget IsReal (IsThere path) real
+    × IsNoPlace IsFailure IsThere IsBeginning (place_of path real) cause)
 
 -- whether a desk of this version is opened, or is of another version than today's
 abbrev pub may_be_opened : Version → Result (Unit {0}) FileCause

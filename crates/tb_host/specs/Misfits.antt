@@ -1,7 +1,6 @@
--- Inner: no contract beyond this crate cites a definition of this module.
 -- Names of tables, in the words for what is wrong with their rows and in the queries that look for it. Which sentence
 -- has rows that belong to none.
-use Rattle.std.specs.Prelude.{◌≡◌, ◌<◌, ◌+◌, ℕ, min, List, [], ◌∷◌, codes, length, get_or, pos, ⊤, Option, None, Some}
+use Rattle.std.specs.Prelude.{◌≡◌, ◌≢◌, ◌<◌, ◌+◌, ◌++◌, decimal, ℕ, min, List, [], ◌∷◌, codes, length, get_or, pos, ⊤, Option, None, Some}
 use Rattle.std.specs.Prelude.{Result, Ok, Err}
 use Rattle.sqlite.specs.Order.{Row, column}
 use Rattle.sqlite.specs.declared.types.Value.TheVariants.{Int}
@@ -27,6 +26,17 @@ query_of_numbers table.Batches = codes "SELECT no FROM batches ORDER BY no"
 query_of_numbers table.Sentences = codes "SELECT no FROM sentences ORDER BY no"
 query_of_numbers table.Moves = codes "SELECT no FROM moves ORDER BY no"
 query_of_numbers table.Totals = codes "SELECT state FROM totals ORDER BY state"
+
+-- the words for what is wrong
+abbrev pub misfit_text : Misfit → List ℕ
+misfit_text wrong.Tables = codes "other tables, columns or indexes than a desk's"
+misfit_text wrong.Version = codes "table meta"
+misfit_text (wrong.Missing t number) = codes "table " ++ table_name t ++ codes " has no row " ++ decimal number
+misfit_text (wrong.Row t number) = codes "table " ++ table_name t ++ codes ", row " ++ decimal number
+misfit_text (wrong.Values name) = codes "a value in table " ++ name.now
+misfit_text (wrong.Sentence number) =
+    codes "sentence " ++ decimal number ++ codes " in table sentences, revisions or pulled"
+misfit_text wrong.Moves = codes "the moves do not lead to the other tables"
 
 -- the sentence of the first of these revisions
 abbrev pub first_revised : List RevisionRow → Option ℕ
@@ -76,6 +86,10 @@ AreRight {A} IsRight rows count = (k : ℕ) → (d : A) → k < count → IsRigh
 abbrev pub IsFirstOff : {A : Type 0} → (IsRight : (number : ℕ) → A → Type 0) → List A → (number : ℕ) → Type 0
 IsFirstOff {A} IsRight rows number = (k : ℕ) × (number ≡ k + 1) × (k < length rows) × AreRight IsRight rows k
     × ((d : A) → ¬ IsRight (k + 1) (get_or rows k d))
+
+-- memory is taken for the rows, of which the first is not wrong
+abbrev pub TakesMemory : {A : Type 0} → (IsRight : (number : ℕ) → A → Type 0) → List A → Type 0
+TakesMemory IsRight rows = (rows ≢ []) × ¬ IsFirstOff IsRight rows 1
 
 -- the row has this number in its first column
 abbrev pub HasNumber : (number : ℕ) → Row → Type 0

@@ -56,11 +56,13 @@ pub enum FileCause {
     NoFolder,
     Folder,
     NotPlain,
+    NoName,
     ReservedName,
     Denied,
     ReadOnly,
     NewReadOnly,
     Links,
+    DeadLink,
     Lost,
     NoAnswer,
     Unopened,
@@ -194,6 +196,7 @@ impl FileCause {
                 "its folder is missing, or is not a folder; make the folder first",
             FileCause::Folder => "this is a folder; name the file of a desk in it",
             FileCause::NotPlain => "this is not a regular file; name the file of a desk",
+            FileCause::NoName => "this name is empty; name the file of a desk",
             FileCause::ReservedName =>
                 "SQLite gives this name a meaning of its own; choose another one",
             FileCause::Denied =>
@@ -202,6 +205,8 @@ impl FileCause {
             FileCause::NewReadOnly => "its folder or its disk is read-only; choose another place",
             FileCause::Links =>
                 "its symbolic links lead to one another, or are too many; name the file itself",
+            FileCause::DeadLink =>
+                "this symbolic link leads to no file; name the file itself, or move the link away",
             FileCause::Lost =>
                 "the network file system does not find it any more; see that it is still there, and mount its disk again",
             FileCause::NoAnswer =>

@@ -44,20 +44,21 @@ fn has_other_pages(
 ) -> Result<bool, FileCause>
     requires usable { IsTrue (memory_is_usable log.old) }
     requires holds { memory_bytes log.old ≡ bytes.now }
-    ensures none { IfOk result (λ has. has ≡ false → HasBegunAlone (bytes_of size) bytes.now) }
+    ensures begun { IfOk result (λ has. (has ≡ false) ↔ HasBegunAlone (bytes_of size) bytes.now) }
     ensures failed { IfErr result (λ cause. cause ≡ FileCause.Memory) }
 {
     match probe_frames(alloc, log, size) {
         Ok(pages) => Ok(are_others(bytes, &pages)),
-        Err(Error::OutOfMemory) => Err(FileCause::Memory),
-        Err(_) => Ok(true),
+        Err(Error::Corrupt) => Ok(true),
+        // Bytes in memory are read without a fault, and are too few for more frames than can be numbered.
+        Err(_) => Err(FileCause::Memory),
     }
 }
 
 /// Whether a log has commits other than the first page that `new` writes. Bytes that are no log count as commits,
 /// unless they may be a log whose header was not written yet.
 pub(crate) fn has_commits(alloc: Global, bytes: &[u8]) -> Result<bool, FileCause>
-    ensures none { IfOk result (λ has. has ≡ false → MayBeOwnLog bytes.now) }
+    ensures own { IfOk result (λ has. (has ≡ false) ↔ MayBeOwnLog bytes.now) }
     ensures failed { IfErr result (λ cause. cause ≡ FileCause.Memory) }
 {
     let mut files = Files {

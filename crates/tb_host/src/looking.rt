@@ -3,14 +3,14 @@
 
 ghost use Rattle.std.specs.Prelude.{◌≡◌, ◌⊎◌, ◌↔◌, ◌++◌, ◌<◌, ◌≤◌, ℕ, List, Bool, IfErr, IfOk, IsOkAnd, IsSomeAnd};
 ghost use Rattle.std.specs.Prelude.{IsTrue, Err as ErrOf, MatchResult, None, OnOk, Option, Some, codes, false};
-ghost use Rattle.std.specs.Prelude.{string_bytes, true};
-ghost use Rattle.std.specs.Fs.{IsDir, IsFile, file_type, metadata_len};
+ghost use Rattle.std.specs.Prelude.{[], string_bytes, true};
+ghost use Rattle.std.specs.Fs.{IsDir, IsFile, IsSymlink, file_type, metadata_len};
 ghost use Rattle.std.specs.Path.{path_buf_bytes};
 ghost use Rattle.std.specs.declared.fs.attrs.Metadata.{Metadata};
-ghost use Rattle.tb_host.specs.Contents.{BeginsWith, HasNoJournal, HasOwnLog, IsBlank, IsListed, IsFailedCall, IsOtherFile};
-ghost use Rattle.tb_host.specs.Contents.{HasDeskAt, HasJournal, IsUnlisted, IsUnlistedAlone, IsUnversioned};
-ghost use Rattle.tb_host.specs.Contents.{IsNotPlain, IsReserved, LeadsTo, ListsDesk, ListsTables};
-ghost use Rattle.tb_host.specs.Contents.{IsNoPlace, IsUnmakeable, MayBeOwnLog, MayBecomeDesk, Path};
+ghost use Rattle.tb_host.specs.Contents.{BeginsWith, HasNoJournal, HasOwnLog, IsBlank, IsListed, IsOtherFile};
+ghost use Rattle.tb_host.specs.Contents.{HasDeskAt, HasJournal, HasOtherLog, IsUnlisted, IsUnlistedAlone, IsUnversioned};
+ghost use Rattle.tb_host.specs.Contents.{HasNoLink, IsDead, IsFailedAt, IsNameCause, IsNotPlain, IsReserved, LeadsTo, ListsDesk};
+ghost use Rattle.tb_host.specs.Contents.{IsNoPlace, IsUnmakeable, ListsTables, MayBeOwnLog, MayBecomeDesk, Path};
 ghost use Rattle.tb_host.specs.Contents.{is_hot, is_looked_at_again, odd_cause, own_log_limit, place_of, version_by};
 
 use crate::causes::FileCause;
@@ -51,7 +51,7 @@ fn there_beside<S: System>(
     ending: &str,
 ) -> Result<Option<fs::Metadata>, FileCause>
     ensures there { IfOk result (S.IsThere system.now (path.now ++ ending.now)) }
-    ensures cause { IfErr result IsFailedCall }
+    ensures cause { IfErr result (IsFailedAt (S.IsFailure system.now) (path.now ++ ending.now)) }
 {
     let name = beside(system.memory(), path, ending)?;
     system.there(name.as_str())
@@ -65,7 +65,7 @@ fn beginning_beside<S: System>(
     most: u64,
 ) -> Result<Vec<u8>, FileCause>
     ensures bytes { IfOk result (λ bytes. S.IsBeginning system.now (path.now ++ ending.now) most bytes.items) }
-    ensures cause { IfErr result IsFailedCall }
+    ensures cause { IfErr result (IsFailedAt (S.IsFailure system.now) (path.now ++ ending.now)) }
 {
     let name = beside(system.memory(), path, ending)?;
     system.beginning(name.as_str(), most)
@@ -96,7 +96,7 @@ fn has_journal<S: System>(system: &S, path: &str) -> Result<bool, FileCause>
     ensures none { IfOk result (λ has. has ≡ false → HasNoJournal (S.IsBeginning system.now) path.now) }
     ensures some { IfOk result (λ has. has ≡ true
         → HasJournal (S.IsThere system.now) (S.IsBeginning system.now) path.now) }
-    ensures cause { IfErr result IsFailedCall }
+    ensures cause { IfErr result (IsFailedAt (S.IsFailure system.now) (path.now ++ codes "-journal")) }
 {
     if is_no_file(there_beside(system, path, "-journal")?) {
         return Ok(true);
@@ -135,8 +135,9 @@ fn listed_in_log<S: System>(
     ensures listed { IfOk result (λ version. (in_file ≡ Some version)
         ⊎ ((log : List ℕ) × S.IsBeginning system.now (path.now ++ codes "-wal") 4194304 log
         × IsListed log (Some version))) }
-    ensures unlisted { IfErr result (λ cause. IsFailedCall cause ⊎ ((cause ≡ FileCause.OtherDatabase)
-        × (in_file ≡ None) × ((log : List ℕ) × S.IsBeginning system.now (path.now ++ codes "-wal") 4194304 log
+    ensures unlisted { IfErr result (λ cause. IsFailedAt (S.IsFailure system.now) (path.now ++ codes "-wal") cause
+        ⊎ ((cause ≡ FileCause.OtherDatabase) × (in_file ≡ None)
+        × ((log : List ℕ) × S.IsBeginning system.now (path.now ++ codes "-wal") 4194304 log
         × IsListed log None))) }
 {
     let log = beginning_beside(system, path, "-wal", LOG_LOOKED_AT)?;
@@ -147,7 +148,8 @@ fn listed_in_log<S: System>(
 /// the file itself does not have yet.
 fn listed_now<S: System>(system: &S, path: &str) -> Result<Version, FileCause>
     ensures lists { IfOk result (ListsDesk (S.IsBeginning system.now) path.now) }
-    ensures unlisted { IfErr result (IsUnlisted (S.IsThere system.now) (S.IsBeginning system.now) path.now) }
+    ensures unlisted { IfErr result (IsUnlisted (S.IsFailure system.now) (S.IsThere system.now)
+        (S.IsBeginning system.now) path.now) }
 {
     let head = system.beginning(path, LOOKED_AT)?;
     if is_other_file(&head) {
@@ -182,7 +184,8 @@ fn is_looked_at_again(found: Result<Version, FileCause>) -> bool
 /// file. If neither has them at the first look, the file has them at the second.
 fn listed<S: System>(system: &S, path: &str) -> Result<Version, FileCause>
     ensures lists { IfOk result (ListsDesk (S.IsBeginning system.now) path.now) }
-    ensures unlisted { IfErr result (IsUnlisted (S.IsThere system.now) (S.IsBeginning system.now) path.now) }
+    ensures unlisted { IfErr result (IsUnlisted (S.IsFailure system.now) (S.IsThere system.now)
+        (S.IsBeginning system.now) path.now) }
 {
     let found = listed_now(system, path);
     if is_looked_at_again(found) {
@@ -224,7 +227,8 @@ fn plain(found: &fs::Metadata) -> Result<(), FileCause>
 fn listed_alone<S: System>(system: &S, path: &str) -> Result<Version, FileCause>
     ensures lists { IfOk result (λ version. ListsDesk (S.IsBeginning system.now) path.now version
         × HasNoJournal (S.IsBeginning system.now) path.now) }
-    ensures unlisted { IfErr result (IsUnlistedAlone (S.IsThere system.now) (S.IsBeginning system.now) path.now) }
+    ensures unlisted { IfErr result (IsUnlistedAlone (S.IsFailure system.now) (S.IsThere system.now)
+        (S.IsBeginning system.now) path.now) }
 {
     if has_journal(system, path)? {
         return Err(FileCause::Journal);
@@ -232,27 +236,57 @@ fn listed_alone<S: System>(system: &S, path: &str) -> Result<Version, FileCause>
     listed(system, path)
 }
 
+/// Whether what is found at a path itself is a link.
+fn is_link(found: Option<fs::Metadata>) -> bool
+    ensures { IsTrue result ↔ IsSomeAnd found (λ m. IsSymlink (file_type m)) }
+{
+    match found {
+        Some(found) => found.is_symlink(),
+        None => false,
+    }
+}
+
+/// Refuses a link at a path that leads to nothing.
+fn no_link_at<S: System>(system: &S, path: &str) -> Result<(), FileCause>
+    ensures none { IfOk result (λ _. HasNoLink (S.IsThere system.now path.now)) }
+    ensures dead { IfErr result (IsDead (S.IsFailure system.now path.now) (S.IsThere system.now path.now)) }
+{
+    if is_link(system.there(path)?) {
+        return Err(FileCause::DeadLink);
+    }
+    Ok(())
+}
+
 /// The path without links of the plain file to which a path leads. `None` where nothing is there.
 fn plain_at<S: System>(system: &S, path: &str) -> Result<Option<PathBuf>, FileCause>
-    ensures leads { IfOk result (LeadsTo (S.IsTarget system.now path.now) (S.IsReal system.now path.now)) }
-    ensures refused { IfErr result (IsNotPlain (S.IsTarget system.now path.now) (S.IsReal system.now path.now)) }
+    ensures leads { IfOk result (LeadsTo (S.IsTarget system.now path.now) (S.IsReal system.now path.now)
+        (S.IsThere system.now path.now)) }
+    ensures refused { IfErr result (IsNotPlain (S.IsTarget system.now path.now) (S.IsReal system.now path.now)
+        (S.IsFailure system.now path.now) (S.IsThere system.now path.now)) }
 {
     let Some(found) = system.target(path)? else {
+        no_link_at(system, path)?;
         return Ok(None);
     };
     plain(&found)?;
     Ok(Some(system.real(path)?))
 }
 
-/// The same, where SQLite gives the name no meaning of its own.
+/// The same, where the name is not empty, and SQLite gives it no meaning of its own.
 fn file_at<S: System>(system: &S, path: &str) -> Result<Option<PathBuf>, FileCause>
     ensures reserved { IsReserved path.now → result ≡ ErrOf FileCause.ReservedName }
-    ensures leads { IfOk result (LeadsTo (S.IsTarget system.now path.now) (S.IsReal system.now path.now)) }
-    ensures refused { IfErr result (λ cause. ((cause ≡ FileCause.ReservedName) × IsReserved path.now)
-        ⊎ IsNotPlain (S.IsTarget system.now path.now) (S.IsReal system.now path.now) cause) }
+    ensures leads { IfOk result (LeadsTo (S.IsTarget system.now path.now) (S.IsReal system.now path.now)
+        (S.IsThere system.now path.now)) }
+    ensures empty { path.now ≡ [] → result ≡ ErrOf FileCause.NoName }
+    ensures refused { IfErr result (λ cause. IsNameCause path.now cause
+        ⊎ IsNotPlain (S.IsTarget system.now path.now) (S.IsReal system.now path.now)
+        (S.IsFailure system.now path.now) (S.IsThere system.now path.now) cause) }
 {
     if is_no_path(path) {
         return Err(FileCause::ReservedName);
+    }
+    if path.is_empty() {
+        return Err(FileCause::NoName);
     }
     plain_at(system, path)
 }
@@ -261,9 +295,9 @@ fn file_at<S: System>(system: &S, path: &str) -> Result<Option<PathBuf>, FileCau
 pub(crate) fn version_of<S: System>(system: &S, path: &str) -> Result<Version, FileCause>
     ensures reserved { IsReserved path.now → result ≡ ErrOf FileCause.ReservedName }
     ensures lists { IfOk result (HasDeskAt (S.IsTarget system.now path.now) (S.IsReal system.now path.now)
-        (S.IsBeginning system.now)) }
+        (S.IsThere system.now path.now) (S.IsBeginning system.now)) }
     ensures unlisted { IfErr result (IsUnversioned (S.IsTarget system.now path.now) (S.IsReal system.now path.now)
-        (S.IsThere system.now) (S.IsBeginning system.now) path.now) }
+        (S.IsFailure system.now) (S.IsThere system.now) (S.IsBeginning system.now) path.now) }
 {
     match file_at(system, path)? {
         Some(real) => listed_alone(system, real.as_str()),
@@ -284,6 +318,7 @@ fn may_be_own(found: &fs::Metadata) -> Result<bool, FileCause>
     ensures plain { IsFile (file_type found.now)
         → IsOkAnd result (λ short. IsTrue short ↔ metadata_len found.now ≤ own_log_limit) }
     ensures cause { IfErr result (λ cause. (cause ≡ FileCause.OddLog) × ¬ IsFile (file_type found.now)) }
+    ensures file { IfOk result (λ _. IsFile (file_type found.now)) }
 {
     if !found.is_file() {
         return Err(FileCause::OddLog);
@@ -293,9 +328,10 @@ fn may_be_own(found: &fs::Metadata) -> Result<bool, FileCause>
 
 /// Whether a log that is short enough to be looked into holds commits of another desk.
 fn has_commits_of_another<S: System>(system: &S, path: &str) -> Result<bool, FileCause>
-    ensures none { IfOk result (λ has. has ≡ false → (bytes : List ℕ)
-        × S.IsBeginning system.now (path.now ++ codes "-wal") own_log_limit bytes × MayBeOwnLog bytes) }
-    ensures cause { IfErr result IsFailedCall }
+    ensures own { IfOk result (λ has. (bytes : List ℕ)
+        × S.IsBeginning system.now (path.now ++ codes "-wal") own_log_limit bytes
+        × ((has ≡ false) ↔ MayBeOwnLog bytes)) }
+    ensures cause { IfErr result (IsFailedAt (S.IsFailure system.now) (path.now ++ codes "-wal")) }
 {
     let bytes = beginning_beside(system, path, "-wal", HALF_MADE_LOG)?;
     has_commits(system.memory(), &bytes)
@@ -306,10 +342,10 @@ fn has_log_of_another<S: System>(system: &S, path: &str) -> Result<bool, FileCau
     ensures none { IfOk result (λ has. has ≡ false
         → HasOwnLog (S.IsThere system.now) (S.IsBeginning system.now) path.now) }
     ensures some { IfOk result (λ has. has ≡ true
-        → (found : Metadata) × S.IsThere system.now (path.now ++ codes "-wal") (Some found)) }
-    ensures cause { IfErr result (λ cause. IsFailedCall cause ⊎ ((cause ≡ FileCause.OddLog)
-        × ((found : Metadata) × S.IsThere system.now (path.now ++ codes "-wal") (Some found)
-        × ¬ IsFile (file_type found)))) }
+        → HasOtherLog (S.IsThere system.now) (S.IsBeginning system.now) path.now) }
+    ensures cause { IfErr result (λ cause. IsFailedAt (S.IsFailure system.now) (path.now ++ codes "-wal") cause
+        ⊎ ((cause ≡ FileCause.OddLog) × ((found : Metadata)
+        × S.IsThere system.now (path.now ++ codes "-wal") (Some found) × ¬ IsFile (file_type found)))) }
 {
     let Some(found) = there_beside(system, path, "-wal")? else {
         return Ok(false);
@@ -347,7 +383,8 @@ fn blank(head: &[u8]) -> Result<(), FileCause>
 /// Refuses a file in which no desk may be made, by the first bytes of it and of the files beside it.
 fn look_at_new<S: System>(system: &S, path: &str) -> Result<(), FileCause>
     ensures new { OnOk result (MayBecomeDesk (S.IsThere system.now) (S.IsBeginning system.now) path.now) }
-    ensures refused { IfErr result (IsNoPlace (S.IsThere system.now) (S.IsBeginning system.now) path.now) }
+    ensures refused { IfErr result (IsNoPlace (S.IsFailure system.now) (S.IsThere system.now)
+        (S.IsBeginning system.now) path.now) }
 {
     let head = system.beginning(path, LOOKED_AT)?;
     blank(&head)?;
@@ -365,10 +402,10 @@ fn look_at_new<S: System>(system: &S, path: &str) -> Result<(), FileCause>
 pub(crate) fn may_become_desk<S: System>(system: &S, path: &str) -> Result<(), FileCause>
     ensures reserved { IsReserved path.now → result ≡ ErrOf FileCause.ReservedName }
     ensures new { OnOk result ((real : Option Path)
-        × LeadsTo (S.IsTarget system.now path.now) (S.IsReal system.now path.now) real
+        × LeadsTo (S.IsTarget system.now path.now) (S.IsReal system.now path.now) (S.IsThere system.now path.now) real
         × MayBecomeDesk (S.IsThere system.now) (S.IsBeginning system.now) (place_of path.now real)) }
     ensures refused { IfErr result (IsUnmakeable (S.IsTarget system.now path.now) (S.IsReal system.now path.now)
-        (S.IsThere system.now) (S.IsBeginning system.now) path.now) }
+        (S.IsFailure system.now) (S.IsThere system.now) (S.IsBeginning system.now) path.now) }
 {
     match file_at(system, path)? {
         Some(real) => look_at_new(system, real.as_str()),

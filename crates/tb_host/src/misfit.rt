@@ -1,7 +1,7 @@
 //! Which row is wrong first in a file whose rows are not those of a desk, for the words about it. This decides nothing:
 //! it reads the tables once more, after the file was refused.
 
-ghost use Rattle.std.specs.Prelude.{◌≡◌, ◌≢◌, ◌↔◌, ◌≤◌, ◌<◌, ◌++◌, ◌+◌, [], ◌∷◌, length, map};
+ghost use Rattle.std.specs.Prelude.{◌≡◌, ◌≢◌, ◌⊎◌, ◌↔◌, ◌≤◌, ◌<◌, ◌++◌, ◌+◌, [], ◌∷◌, length, map};
 ghost use Rattle.std.specs.Prelude.{IfErr, IfOk, IfSome, IsErrAnd, IsOk, IsTrue, MatchOption, MatchResult};
 ghost use Rattle.std.specs.Prelude.{ℕ, Bool, List, None, Some, pos, slice_index, slice_index_or, string_bytes};
 ghost use Rattle.std.specs.List.{AllWithin, HoldsAt};
@@ -18,10 +18,10 @@ ghost use Rattle.tb_replay.specs.Summaries.{entries_of, entry_of};
 ghost use Rattle.tb_host.specs.Misfits.{IsStopOf, IsUnreadable, first_pulled, first_revised, found_by};
 ghost use Rattle.tb_host.specs.Misfits.{query_of_numbers, smaller, stop_by, table_name};
 ghost use Rattle.tb_host.specs.Misfits.{AreRight, HasNumber, IsFirstOff};
-ghost use Rattle.tb_host.specs.Looked.{AreAllRead, AreRightTotals, Finds, FindsOrFails, HasSumsAt, IsBatchRow};
-ghost use Rattle.tb_host.specs.Looked.{IsFirstInBatches, IsFirstInMoves, IsFirstInSentences, IsFirstInSums};
-ghost use Rattle.tb_host.specs.Looked.{IsFirstMisfit, IsMoveRow, IsRowOff, IsSentenceRow, IsUnread, IsWrongSentence};
-ghost use Rattle.tb_host.specs.Looked.{IsWrongTotal, Said, Takes, stop_of_unfit};
+ghost use Rattle.tb_host.specs.Looked.{AreAllRead, AreRightTotals, EndsIf, FindsOrFails, HasFailed, HasItsRows};
+ghost use Rattle.tb_host.specs.Looked.{HasSumsAt, IsBatchRow, IsFirstInBatches, IsFirstInMoves, IsFirstInSentences};
+ghost use Rattle.tb_host.specs.Looked.{IsFirstInSums, IsFirstStop, IsMoveRow, IsRowOff, IsSentenceRow, IsUnread, IsWrongSentence};
+ghost use Rattle.tb_host.specs.Looked.{IsWrongTotal, Said, Takes, stop_in, stop_of_unfit};
 
 use sqlite::types::ValueRef;
 use sqlite::{Alter, Connection, Error, Row};
@@ -89,6 +89,11 @@ pub enum Misfit {
 }
 
 impl Display for Misfit {
+    ghost use Rattle.std.specs.Prelude.{Some};
+    ghost use Rattle.tb_host.specs.Misfits.{misfit_text};
+
+    ghost output = { λ misfit. Some (misfit_text misfit) };
+
     fn fmt<W: fmt::Write>(&self, f: &mut Formatter<W>) -> fmt::Result {
         match self {
             Misfit::Tables => { f.write_str("other tables, columns or indexes than a desk's") },
@@ -140,7 +145,7 @@ impl<T: Drop> From<AllocFailed<T>> for Stop {
 /// The tables of a file that is no desk. What is made of their rows is proved over any, so over those of which it is
 /// kept what each says.
 trait Tables {
-    ghost use Rattle.std.specs.Prelude.{◌≡◌, IfOk, IfSome, Option};
+    ghost use Rattle.std.specs.Prelude.{◌≡◌, IfSome, IsTrue, MatchResult, Option};
     ghost use Rattle.tb_host.specs.Looked.{Said, Tells};
 
     // what each table says, where that is kept
@@ -151,36 +156,44 @@ trait Tables {
         ensures { IfSome (says self.now) (λ said. result ≡ said.has_schema) };
 
     fn versions(&mut self, alloc: Global) -> Result<Vec<u32>, ReadError>
-        ensures told { IfSome (says self.old) (λ said. Tells said.versions result (λ rows. rows.items)) }
+        ensures told { IfSome (says self.old) (λ said. Tells said.may_fail said.versions result
+            (λ rows. rows.items)) }
         ensures still { says self.new ≡ says self.old };
 
     fn batches(&mut self, alloc: Global) -> Result<Vec<BatchRow>, ReadError>
-        ensures told { IfSome (says self.old) (λ said. Tells said.batches result (λ rows. rows.items)) }
+        ensures told { IfSome (says self.old) (λ said. Tells said.may_fail said.batches result
+            (λ rows. rows.items)) }
         ensures still { says self.new ≡ says self.old };
 
     fn sentences(&mut self, alloc: Global) -> Result<Vec<SentenceRow>, ReadError>
-        ensures told { IfSome (says self.old) (λ said. Tells said.sentences result (λ rows. rows.items)) }
+        ensures told { IfSome (says self.old) (λ said. Tells said.may_fail said.sentences result
+            (λ rows. rows.items)) }
         ensures still { says self.new ≡ says self.old };
 
     fn revisions(&mut self, alloc: Global) -> Result<Vec<RevisionRow>, ReadError>
-        ensures told { IfSome (says self.old) (λ said. Tells said.revisions result (λ rows. rows.items)) }
+        ensures told { IfSome (says self.old) (λ said. Tells said.may_fail said.revisions result
+            (λ rows. rows.items)) }
         ensures still { says self.new ≡ says self.old };
 
     fn pulled(&mut self, alloc: Global) -> Result<Vec<u32>, ReadError>
-        ensures told { IfSome (says self.old) (λ said. Tells said.pulled result (λ rows. rows.items)) }
+        ensures told { IfSome (says self.old) (λ said. Tells said.may_fail said.pulled result
+            (λ rows. rows.items)) }
         ensures still { says self.new ≡ says self.old };
 
     fn moves(&mut self, alloc: Global) -> Result<Vec<MoveRow>, ReadError>
-        ensures told { IfSome (says self.old) (λ said. Tells said.moves result (λ rows. rows.items)) }
+        ensures told { IfSome (says self.old) (λ said. Tells said.may_fail said.moves result
+            (λ rows. rows.items)) }
         ensures still { says self.new ≡ says self.old };
 
     fn totals(&mut self, alloc: Global) -> Result<Vec<TotalRow>, ReadError>
-        ensures told { IfSome (says self.old) (λ said. Tells said.totals result (λ rows. rows.items)) }
+        ensures told { IfSome (says self.old) (λ said. Tells said.may_fail said.totals result
+            (λ rows. rows.items)) }
         ensures still { says self.new ≡ says self.old };
 
     /// The rows with the numbers of a table's rows alone.
     fn numbers(&mut self, table: Table) -> Result<Vec<Row>, Error>
-        ensures told { IfSome (says self.old) (λ said. IfOk result (λ rows. rows.items ≡ said.numbers table)) }
+        ensures told { IfSome (says self.old) (λ said. MatchResult result (λ rows. rows.items ≡ said.numbers table)
+            (λ _. IsTrue said.may_fail)) }
         ensures still { says self.new ≡ says self.old };
 }
 
@@ -267,7 +280,7 @@ fn first_gap(rows: &[Row]) -> Option<u64>
 fn misfit_of<T: Tables>(tables: &mut T, table: Table) -> Stop
     ensures unreadable { IsUnreadable table result }
     ensures first { (said : Said) → T.says tables.old ≡ Some said
-        → FindsOrFails (IsUnread table (said.numbers table)) result }
+        → EndsIf (IsTrue said.may_fail) (IsUnread table (said.numbers table)) result }
     ensures still { T.says tables.new ≡ T.says tables.old }
 {
     match tables.numbers(table) {
@@ -287,7 +300,7 @@ fn rows_of<T: Tables, A>(
 ) -> Result<Vec<A>, Stop>
     ensures rows { MatchResult read (λ rows. result ≡ Read rows) (λ e. IsErrAnd result (IsStopOf e table)) }
     ensures first { (said : Said) → T.says tables.old ≡ Some said
-        → IfErr result (FindsOrFails (IsUnread table (said.numbers table))) }
+        → IfErr result (EndsIf (IsTrue said.may_fail ⊎ HasFailed read) (IsUnread table (said.numbers table))) }
     ensures still { T.says tables.new ≡ T.says tables.old }
 {
     match read {
@@ -348,7 +361,7 @@ fn batch_in(row: &BatchRow) -> Option<tb_replay::BatchRow<'_>>
 fn batches_in<'a>(alloc: Global, rows: &'a [BatchRow]) -> Result<Vec<tb_replay::BatchRow<'a>>, Stop>
     ensures right { IfOk result (λ v. (map batch_record v.items ≡ map batch_of rows.now)
         × AreRight (λ _. IsBatchRow) rows.now (length rows.now)) }
-    ensures wrong { IfErr result (FindsOrFails (IsRowOff Table.Batches (λ _. IsBatchRow) rows.now)) }
+    ensures wrong { IfErr result (IsRowOff Table.Batches (λ _. IsBatchRow) rows.now) }
 {
     let mut batches = Vec::new(alloc);
     for at in 0..rows.len() {
@@ -485,7 +498,7 @@ fn next_sentence<'a>(
         × Takes number own is_pulled rest.old.revisions.now rest.old.pulled.now rest.new.revisions.now
         rest.new.pulled.now × MatchResult result
         (λ entry. (x : Sentence) × IsSentenceRow batches number row.now own is_pulled x × (entry ≡ entry_of x))
-        (FindsOrFails (λ misfit. (misfit ≡ Misfit.Sentence number)
+        (FindsOrFails (HasItsRows batches row.now own) (λ misfit. (misfit ≡ Misfit.Sentence number)
         × ((x : Sentence) → ¬ IsSentenceRow batches number row.now own is_pulled x))) }
 {
     let own = rest.revisions_of(number);
@@ -509,7 +522,7 @@ fn sentences_in<'a>(
 ) -> Result<Vec<SentenceSummary<'a>>, Stop>
     ensures right { IfOk result (λ v. (xs : List Sentence)
         × AreAllRead batches rows.now revisions.now pulled.now xs × (v.items ≡ entries_of xs)) }
-    ensures wrong { IfErr result (FindsOrFails (IsWrongSentence batches rows.now revisions.now pulled.now)) }
+    ensures wrong { IfErr result (IsWrongSentence batches rows.now revisions.now pulled.now) }
 {
     let mut rest = Rest { revisions, pulled };
     let mut sentences: Vec<SentenceSummary<'a>> = Vec::new(alloc);
@@ -525,7 +538,7 @@ fn sentences_in<'a>(
 
 /// Why the look ends at the row of a move that cannot be read.
 fn stop_of_fault(fault: Fault, number: u64) -> Stop
-    ensures found { FindsOrFails (λ misfit. (misfit ≡ Misfit.Row Table.Moves number)
+    ensures found { FindsOrFails (fault ≢ Fault.NotADesk) (λ misfit. (misfit ≡ Misfit.Row Table.Moves number)
         × (fault ≡ Fault.NotADesk)) result }
     ensures sure { fault ≡ Fault.NotADesk → result ≡ Stop.Found (Misfit.Row Table.Moves number) }
 {
@@ -539,6 +552,7 @@ fn stop_of_fault(fault: Fault, number: u64) -> Stop
 fn read_move(alloc: Global, row: &MoveRow) -> Result<(), Fault>
     ensures right { IfOk result (λ _. IsMoveRow row.now) }
     ensures wrong { IfErr result (λ fault. fault ≡ Fault.NotADesk → ¬ IsMoveRow row.now) }
+    ensures sure { (¬ IsMoveRow row.now) → result ≡ ErrOf Fault.NotADesk }
 {
     read_moves(alloc, slice::from_ref(row))?;
     Ok(())
@@ -547,8 +561,8 @@ fn read_move(alloc: Global, row: &MoveRow) -> Result<(), Fault>
 /// Looks at the row with this number.
 fn look_at_move(alloc: Global, row: &MoveRow, number: u64) -> Result<(), Stop>
     ensures right { IfOk result (λ _. IsMoveRow row.now) }
-    ensures wrong { IfErr result (FindsOrFails (λ misfit. (misfit ≡ Misfit.Row Table.Moves number)
-        × (¬ IsMoveRow row.now))) }
+    ensures wrong { IfErr result (FindsOrFails (¬ ¬ IsMoveRow row.now)
+        (λ misfit. (misfit ≡ Misfit.Row Table.Moves number) × ¬ IsMoveRow row.now)) }
 {
     match read_move(alloc, row) {
         Ok(()) => Ok(()),
@@ -559,7 +573,7 @@ fn look_at_move(alloc: Global, row: &MoveRow, number: u64) -> Result<(), Stop>
 /// The first move whose row no move has.
 fn look_at_moves(alloc: Global, rows: &[MoveRow]) -> Result<(), Stop>
     ensures right { IfOk result (λ _. AreRight (λ _. IsMoveRow) rows.now (length rows.now)) }
-    ensures wrong { IfErr result (FindsOrFails (IsRowOff Table.Moves (λ _. IsMoveRow) rows.now)) }
+    ensures wrong { IfErr result (IsRowOff Table.Moves (λ _. IsMoveRow) rows.now) }
 {
     for at in 0..rows.len() {
         look_at_move(alloc, &rows[at], at as u64 + 1)?;
@@ -613,7 +627,7 @@ fn has_six(rows: &[TotalRow]) -> bool
 /// The first row of the totals that does not have the sums of its state.
 fn look_at_totals(rows: &[TotalRow], totals: &Totals) -> Result<(), Stop>
     ensures right { IfOk result (λ _. AreRightTotals totals.now rows.now) }
-    ensures wrong { IfErr result (Finds (IsWrongTotal totals.now rows.now)) }
+    ensures wrong { IfErr result (IsWrongTotal totals.now rows.now) }
 {
     for at in 0..rows.len() {
         if !has_sums_at(rows, at, totals) {
@@ -634,7 +648,7 @@ fn look_at_sums(
     sentences: &[SentenceSummary<'_>],
 ) -> Stop
     ensures { (xs : List Sentence) → sentences.now ≡ entries_of xs
-        → Finds (IsFirstInSums batches.now xs rows.now) result }
+        → IsFirstInSums batches.now xs rows.now result }
 {
     match totals_of(batches, sentences) {
         Some(sums) => match look_at_totals(rows, &sums) {
@@ -653,7 +667,8 @@ fn look_from_moves<T: Tables>(
     sentences: &[SentenceSummary<'_>],
 ) -> Result<(), Stop>
     ensures { (said : Said) → T.says tables.old ≡ Some said → (xs : List Sentence)
-        → sentences.now ≡ entries_of xs → IfErr result (FindsOrFails (IsFirstInMoves said batches.now xs)) }
+        → sentences.now ≡ entries_of xs
+        → IsErrAnd result (EndsIf (IsTrue said.may_fail) (IsFirstInMoves said batches.now xs)) }
 {
     let read = tables.moves(alloc);
     let moves = rows_of(tables, Table::Moves, read)?;
@@ -670,7 +685,7 @@ fn look_from_sentences<T: Tables>(
     batches: &[tb_replay::BatchRow<'_>],
 ) -> Result<(), Stop>
     ensures { (said : Said) → T.says tables.old ≡ Some said
-        → IfErr result (FindsOrFails (IsFirstInSentences said batches.now)) }
+        → IsErrAnd result (EndsIf (IsTrue said.may_fail) (IsFirstInSentences said batches.now)) }
 {
     let read = tables.sentences(alloc);
     let rows = rows_of(tables, Table::Sentences, read)?;
@@ -691,7 +706,7 @@ fn look_from_sentences<T: Tables>(
 /// Looks at the tables from that of the batches on.
 fn look_from_batches<T: Tables>(alloc: Global, tables: &mut T) -> Result<(), Stop>
     ensures { (said : Said) → T.says tables.old ≡ Some said
-        → IfErr result (FindsOrFails (IsFirstInBatches said)) }
+        → IsErrAnd result (EndsIf (IsTrue said.may_fail) (IsFirstInBatches said)) }
 {
     let read = tables.batches(alloc);
     let rows = rows_of(tables, Table::Batches, read)?;
@@ -702,7 +717,7 @@ fn look_from_batches<T: Tables>(alloc: Global, tables: &mut T) -> Result<(), Sto
 /// Looks at all tables in turn. Where each row is right by itself, the moves do not lead to the others.
 fn look<T: Tables>(alloc: Global, tables: &mut T) -> Result<(), Stop>
     ensures { (said : Said) → T.says tables.old ≡ Some said
-        → IfErr result (FindsOrFails (IsFirstMisfit said)) }
+        → IsErrAnd result (EndsIf (IsTrue said.may_fail) (IsFirstStop said)) }
 {
     if !tables.has_schema() {
         return Err(Stop::Found(Misfit::Tables));
@@ -726,7 +741,8 @@ fn found_by(looked: Result<(), Stop>) -> Option<Misfit>
 
 /// What is wrong first with these tables; none where memory or the store fails.
 fn misfit_in<T: Tables>(alloc: Global, tables: &mut T) -> Option<Misfit>
-    ensures { (said : Said) → T.says tables.old ≡ Some said → IfSome result (IsFirstMisfit said) }
+    ensures { (said : Said) → T.says tables.old ≡ Some said
+        → EndsIf (IsTrue said.may_fail) (IsFirstStop said) (stop_in result) }
 {
     found_by(look(alloc, tables))
 }

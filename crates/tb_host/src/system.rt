@@ -40,6 +40,9 @@ pub(crate) trait System {
     // the first bytes of the file to which a path leads, at most so many; none of a missing one
     ghost IsBeginning: { Self → List ℕ → ℕ → List ℕ → Type 0 };
 
+    // why it does not say what is at a path, or does not give the first bytes there
+    ghost IsFailure: { Self → List ℕ → FileCause → Type 0 };
+
     // what it says where the file at a path is to become empty
     ghost IsEmptied: { Self → List ℕ → Result (Unit {0}) Error → Type 0 };
 
@@ -61,7 +64,7 @@ pub(crate) trait System {
     /// Finds what is at a path itself, where that may be a link.
     fn there(&self, path: &str) -> Result<Option<fs::Metadata>, FileCause>
         ensures there { IfOk result (IsThere self.now path.now) }
-        ensures cause { IfErr result IsSystemCause };
+        ensures cause { IfErr result (IsFailure self.now path.now) };
 
     /// The path without links: a log is beside the file to which a link leads.
     fn real(&self, path: &str) -> Result<PathBuf, FileCause>
@@ -71,7 +74,7 @@ pub(crate) trait System {
     /// Reads the first bytes of a file, at most so many; none of a missing one.
     fn beginning(&self, path: &str, most: u64) -> Result<Vec<u8>, FileCause>
         ensures bytes { IfOk result (λ bytes. IsBeginning self.now path.now most bytes.items) }
-        ensures cause { IfErr result IsSystemCause };
+        ensures cause { IfErr result (IsFailure self.now path.now) };
 
     /// Its memory.
     fn memory(&self) -> Global;
@@ -167,6 +170,8 @@ impl System for HostRuntime {
     ghost IsThere = { λ _ _ _. Unit {0} };
 
     ghost IsBeginning = { λ _ _ _ _. Unit {0} };
+
+    ghost IsFailure = { λ _ _ cause. IsSystemCause cause };
 
     ghost IsEmptied = { λ _ _ _. Unit {0} };
 

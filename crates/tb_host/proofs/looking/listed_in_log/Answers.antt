@@ -1,5 +1,5 @@
 use Rattle.std.proofs.Common.{◌++◌, ℕ, List, None, Some, codes, subst}
-use Rattle.tb_host.specs.Contents.{IsListed}
+use Rattle.tb_host.specs.Contents.{IsFailedAt, IsListed}
 use Rattle.tb_host.proofs.Listed.{by_log}
 use Rattle.tb_host.proofs.Unlisted.{by_none}
 use Rattle.tb_host.proofs.looking.listed_in_log.Goals as goal
@@ -16,7 +16,8 @@ returns-clause-listed g c =
 
 pub returns-clause-unlisted : goal.returns-clause-unlisted
 returns-clause-unlisted g c =
-    by_none ((x : List ℕ) × g.S.System.IsBeginning c.args.system.now (c.args.path.now ++ codes "-wal") 4194304 x × IsListed x None)
+    by_none (IsFailedAt (g.S.System.IsFailure c.args.system.now) (c.args.path.now ++ codes "-wal"))
+    ((x : List ℕ) × g.S.System.IsBeginning c.args.system.now (c.args.path.now ++ codes "-wal") 4194304 x × IsListed x None)
     c.listed_in.result c.args.in_file c.version_by.result c.version_by.ensures
     (λ is. (
       c.in_ok-log.log.items,

@@ -1,6 +1,6 @@
 use Rattle.std.proofs.Common.{◌++◌, ℕ, List, None, Some, codes, inl, inr, refl, subst}
 use Rattle.std.specs.Fs.{IsFile, file_type}
-use Rattle.tb_host.specs.Contents.{IsListed, IsUnlisted, ListsDesk}
+use Rattle.tb_host.specs.Contents.{IsFailedAt, IsListed, IsUnlisted, ListsDesk}
 use Rattle.tb_host.specs.declared.causes.FileCause.TheVariants as file
 use Rattle.tb_host.proofs.Listed.{by_either, by_file}
 use Rattle.tb_host.proofs.Unlisted.{by_odd, by_rest, some_there}
@@ -29,7 +29,7 @@ returns-clause-lists g c =
 pub returns-then-is_no_file-clause-unlisted : goal.returns-then-is_no_file-clause-unlisted
 returns-then-is_no_file-clause-unlisted g c =
     let there = g.S.System.IsThere c.args.system.now in
-    by_odd (IsUnlisted there (g.S.System.IsBeginning c.args.system.now) c.args.path.now) c.listed_in-in_file.result file.OddLog c.ok_or.result c.ok_or.ensures.value
+    by_odd (IsUnlisted (g.S.System.IsFailure c.args.system.now) there (g.S.System.IsBeginning c.args.system.now) c.args.path.now) c.listed_in-in_file.result file.OddLog c.ok_or.result c.ok_or.ensures.value
     (inr (inr (inl (
       refl,
       some_there (there (c.args.path.now ++ codes "-wal")) (λ m. ¬ IsFile (file_type m)) c.in_ok-there_beside.field-0
@@ -39,9 +39,10 @@ returns-then-is_no_file-clause-unlisted g c =
 pub returns-clause-unlisted : goal.returns-clause-unlisted
 returns-clause-unlisted g c =
     let begins = g.S.System.IsBeginning c.args.system.now in
-    by_rest ((x : List ℕ) × begins (c.args.path.now ++ codes "-wal") 4194304 x × IsListed x None)
-    (IsUnlisted (g.S.System.IsThere c.args.system.now) begins c.args.path.now) c.listed_in-in_file.result c.listed_in_log.result c.listed_in_log.ensures.unlisted
-    (λ cause failed. inl failed)
+    by_rest (IsFailedAt (g.S.System.IsFailure c.args.system.now) (c.args.path.now ++ codes "-wal"))
+    ((x : List ℕ) × begins (c.args.path.now ++ codes "-wal") 4194304 x × IsListed x None)
+    (IsUnlisted (g.S.System.IsFailure c.args.system.now) (g.S.System.IsThere c.args.system.now) begins c.args.path.now) c.listed_in-in_file.result c.listed_in_log.result c.listed_in_log.ensures.unlisted
+    (λ cause failed. inl (inr failed))
     (λ none log. inr (inr (inr (inr (
       refl,
       (

@@ -16,19 +16,18 @@ returns-clause-new g c = record {
 pub returns-in_err-blank-clause-refused : goal.returns-in_err-blank-clause-refused
 returns-in_err-blank-clause-refused g c =
     let p = err_from_is_err_and c.from_residual-in_err-blank.result c.from_residual-in_err-blank.ensures.1 in
-    refused_as (IsNoPlace (g.S.System.IsThere c.args.system.now) (g.S.System.IsBeginning c.args.system.now) c.args.path.now) _ _ (p.1 ∙ ap Err p.2)
-    (inr (inl (c.in_ok-head.head.items, c.in_ok-head.ensures.bytes, same_head _ _ _ c.deref.ensures.value c.in_err-blank.ensures)))
+    refused_as (IsNoPlace (g.S.System.IsFailure c.args.system.now) (g.S.System.IsThere c.args.system.now) (g.S.System.IsBeginning c.args.system.now) c.args.path.now) _ _ (p.1 ∙ ap Err p.2)
+    (inr (inr (inl (c.in_ok-head.head.items, c.in_ok-head.ensures.bytes, same_head _ _ _ c.deref.ensures.value c.in_err-blank.ensures))))
 
 pub returns-then-branch-clause-refused : goal.returns-then-branch-clause-refused
-returns-then-branch-clause-refused g c = inr (inr (inl (refl, c.in_ok-has_journal.ensures.some c.if-branch.true)))
+returns-then-branch-clause-refused g c = inr (inr (inr (inl (refl, c.in_ok-has_journal.ensures.some c.if-branch.true))))
 
 pub returns-in_err-has_log_of_another-clause-refused : goal.returns-in_err-has_log_of_another-clause-refused
 returns-in_err-has_log_of_another-clause-refused g c =
     let p = err_from_is_err_and c.from_residual-in_err-has_log_of_another.result c.from_residual-in_err-has_log_of_another.ensures.1 in
-    refused_as (IsNoPlace (g.S.System.IsThere c.args.system.now) (g.S.System.IsBeginning c.args.system.now) c.args.path.now) _ _ (p.1 ∙ ap Err p.2)
-    (by_log (g.S.System.IsThere c.args.system.now) (g.S.System.IsBeginning c.args.system.now) c.args.path.now _ c.in_err-has_log_of_another.ensures.cause)
+    refused_as (IsNoPlace (g.S.System.IsFailure c.args.system.now) (g.S.System.IsThere c.args.system.now) (g.S.System.IsBeginning c.args.system.now) c.args.path.now) _ _ (p.1 ∙ ap Err p.2)
+    (by_log (g.S.System.IsFailure c.args.system.now) (g.S.System.IsThere c.args.system.now) (g.S.System.IsBeginning c.args.system.now) c.args.path.now _ c.in_err-has_log_of_another.ensures.cause)
 
 pub returns-then-branch-2-clause-refused : goal.returns-then-branch-2-clause-refused
 returns-then-branch-2-clause-refused g c =
-    let there = c.in_ok-has_log_of_another.ensures.some c.if-branch-2.true in
-    inr (inr (inr (there.0, there.1, inr refl)))
+    inr (inr (inr (inr (inr (refl, c.in_ok-has_log_of_another.ensures.some c.if-branch-2.true)))))

@@ -18,8 +18,9 @@ returns-in_err-real-clause-refused g c =
     let real = g.S.System.IsReal c.args.system.now c.args.path.now in
     let there = g.S.System.IsThere c.args.system.now in
     let begins = g.S.System.IsBeginning c.args.system.now in
-    refused_as (IsUnmakeable target real there begins c.args.path.now) _ _ (p.1 ∙ ap Err p.2)
-    (not_made there begins c.args.path.now target real _ c.in_err-real.ensures.refused)
+    let fails = g.S.System.IsFailure c.args.system.now in
+    refused_as (IsUnmakeable target real fails there begins c.args.path.now) _ _ (p.1 ∙ ap Err p.2)
+    (not_made fails there begins c.args.path.now target real _ c.in_err-real.ensures.refused)
 
 pub returns-in-Some-clause-refused : goal.returns-in-Some-clause-refused
 returns-in-Some-clause-refused g c =
@@ -27,12 +28,12 @@ returns-in-Some-clause-refused g c =
     let begins = g.S.System.IsBeginning c.args.system.now in
     let target = g.S.System.IsTarget c.args.system.now c.args.path.now in
     let real = g.S.System.IsReal c.args.system.now c.args.path.now in
-    let leads : LeadsTo target real (Some c.in-Some.real) = rw c.in-Some.is at c.in_ok-real.ensures.leads in
-    IfErr-weaker c.look_at_new.result _ _ (λ cause h. inr (inr (Some c.in-Some.real, leads, subst (λ p. IsNoPlace there begins p cause) c.as_str.ensures h))) c.look_at_new.ensures.refused
+    let leads : LeadsTo target real (there c.args.path.now) (Some c.in-Some.real) = rw c.in-Some.is at c.in_ok-real.ensures.leads in
+    IfErr-weaker c.look_at_new.result _ _ (λ cause h. inr (inr (Some c.in-Some.real, leads, subst (λ p. IsNoPlace (g.S.System.IsFailure c.args.system.now) there begins p cause) c.as_str.ensures h))) c.look_at_new.ensures.refused
 
 pub returns-in-None-clause-refused : goal.returns-in-None-clause-refused
 returns-in-None-clause-refused g c =
     let target = g.S.System.IsTarget c.args.system.now c.args.path.now in
     let real = g.S.System.IsReal c.args.system.now c.args.path.now in
-    let leads : LeadsTo target real None = rw c.in-None.is at c.in_ok-real.ensures.leads in
+    let leads : LeadsTo target real (g.S.System.IsThere c.args.system.now c.args.path.now) None = rw c.in-None.is at c.in_ok-real.ensures.leads in
     IfErr-weaker c.look_at_new-in-None.result _ _ (λ cause h. inr (inr (None, leads, h))) c.look_at_new-in-None.ensures.refused

@@ -1,8 +1,9 @@
 use Rattle.std.proofs.Common.{◌∙◌, ap, arith, map, refl, rules, take_all}
 use Rattle.std.proofs.lemmas.Result.{err_from_is_err_and}
-use Rattle.tb_host.proofs.Firsts.{failed_so, one_more_shown}
-use Rattle.tb_host.proofs.Numbered.{all_right, none_yet, off_first, one_more_right}
+use Rattle.tb_host.proofs.Firsts.{one_more_shown, stopped_by}
+use Rattle.tb_host.proofs.Numbered.{all_right, none_yet, off_first, one_more_right, takes_memory}
 use Rattle.tb_host.specs.Looked.{IsBatchRow, IsRowOff}
+use Rattle.tb_host.specs.declared.misfit.Stop.TheVariants.{Failed}
 use Rattle.tb_host.specs.declared.misfit.Table.TheVariants.{Batches}
 use Rattle.tb_refine.specs.DeskTables.{batch_record}
 use Rattle.tb_tables.specs.Values.{batch_of}
@@ -24,7 +25,9 @@ returns-in-None-clause-wrong c = (refl, off_first (λ _. IsBatchRow) c.args.rows
 pub returns-in_err-push-in-Some-clause-wrong : goal.returns-in_err-push-in-Some-clause-wrong
 returns-in_err-push-in-Some-clause-wrong c =
     let p = err_from_is_err_and c.from_residual.result c.from_residual.ensures.1 in
-    failed_so (IsRowOff Batches (λ _. IsBatchRow) c.args.rows.now) c.from_residual.result p.0 p.1 p.2
+    stopped_by (IsRowOff Batches (λ _. IsBatchRow) c.args.rows.now) c.from_residual.result p.0 Failed p.1 p.2
+    (takes_memory (λ _. IsBatchRow) c.args.rows.now c.loop-at.at c.index-rows-at.result (omega (arith, c.loop-at-test.true)) c.index-rows-at.is
+    (λ off. off (c.in-Some.ensures.named, c.in-Some.batch, c.in-Some.ensures.record)) c.loop-at.invariant.1)
 
 pub returns-clause-right : goal.returns-clause-right
 returns-clause-right c = (

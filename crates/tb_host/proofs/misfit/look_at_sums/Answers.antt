@@ -1,7 +1,5 @@
 use Rattle.std.proofs.Common.{◌∙◌, ap, inl, inr, refl, sym}
 use Rattle.std.proofs.lemmas.Bool.{true≢false}
-use Rattle.tb_host.proofs.Firsts.{finds_more}
-use Rattle.tb_host.specs.Looked.{IsFirstInSums, IsWrongTotal}
 use Rattle.tb_replay.specs.Summaries.{entries_of}
 use Rattle.tb_host.proofs.misfit.look_at_sums.Goals as goal
 
@@ -10,8 +8,7 @@ returns-in-Ok c xs is = inl (c.in-Some.sums, λ s b e. c.in-Some.ensures.sums s 
 
 pub returns-in-Err : goal.returns-in-Err
 returns-in-Err c xs is =
-    finds_more (IsWrongTotal c.in-Some.sums c.args.rows.now) (IsFirstInSums c.args.batches.now xs c.args.rows.now) c.in-Err.stop c.in-Err.ensures.wrong
-    (λ m h. inl (c.in-Some.sums, λ s b e. c.in-Some.ensures.sums s b (is ∙ ap entries_of e), inl h))
+    inl (c.in-Some.sums, λ s b e. c.in-Some.ensures.sums s b (is ∙ ap entries_of e), inl c.in-Err.ensures.wrong)
 
 pub returns-in-None : goal.returns-in-None
 returns-in-None c xs is = inr (λ s b e few small. true≢false (sym (c.in-None.ensures.fits s b (is ∙ ap entries_of e) few small)), refl)

@@ -3,7 +3,7 @@ use Rattle.std.proofs.lemmas.Bool.{true≢false}
 use Rattle.std.specs.Prelude.{Err}
 use Rattle.tb_core.specs.Machine.{Sentence}
 use Rattle.tb_host.proofs.Firsts.{takes_so, unfit_so}
-use Rattle.tb_host.specs.Looked.{IsSentenceRow}
+use Rattle.tb_host.specs.Looked.{HasItsRows, IsSentenceRow}
 use Rattle.tb_tables.specs.declared.rows.RevisionRow.{RevisionRow}
 use Rattle.tb_host.proofs.misfit.next_sentence.Goals as goal
 
@@ -31,6 +31,6 @@ returns-in-Err c = (
   c.takes_pulled-pulled.result,
   takes_so c.args.number c.revisions_of-own.result.now c.takes_pulled-pulled.result _ _ _ _ _ _ c.revisions_of-own.ensures.cut c.revisions_of-own.ensures.own c.revisions_of-own.ensures.end (ap (λ (b : Bor (List ℕ)). b.now) c.revisions_of-own.ensures.pulled)
       c.takes_pulled-pulled.ensures.taken (λ f. ((c.takes_pulled-pulled.ensures.other f).0, ap (λ (b : Bor (List ℕ)). b.now) (c.takes_pulled-pulled.ensures.other f).1)) (ap (λ (b : Bor (List RevisionRow)). b.now) c.takes_pulled-pulled.ensures.revisions),
-  unfit_so c.in-Err.unfit c.args.number ((x : Sentence) → ¬ IsSentenceRow c.args.batches c.args.number c.args.row.now c.revisions_of-own.result.now c.takes_pulled-pulled.result x) c.stop_of_unfit.result c.stop_of_unfit.ensures
+  unfit_so c.in-Err.unfit c.args.number (HasItsRows c.args.batches c.args.row.now c.revisions_of-own.result.now) ((x : Sentence) → ¬ IsSentenceRow c.args.batches c.args.number c.args.row.now c.revisions_of-own.result.now c.takes_pulled-pulled.result x) c.stop_of_unfit.result c.stop_of_unfit.ensures (c.has_its_rows.ensures.0 c.if-not-has_its_rows.false)
       (λ same x right. c.in-Err.ensures.unfit (ap (λ f. Err f) same) x right.1),
 )
